@@ -1,0 +1,4 @@
+pub mod Conditionals
+pub mod Finding
+pub mod Formatted
+pub mod Ranges
