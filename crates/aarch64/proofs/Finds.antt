@@ -55,12 +55,13 @@ finds-short : (d : ℤ) (before after : List ℕ) → Patchable aarch64 2 (bytes
 finds-short d before after p =
     let q = aarch64 .patched 2 (short-veneer .code) d in
     let e : aarch64 .find (before ++ ((q ++ []) ++ after)) (length before) ≡ Branch Unconditional 4 d =
-      ap (λ (c : List ℕ). aarch64 .find (before ++ (c ++ after)) (length before)) (append-nil q)
-      ∙ finds-branch 2 (short-veneer .code) d before after p jumps ∙ ap (λ (r : Role). Branch r 4 d) is-jump in
+    ap (λ (c : List ℕ). aarch64 .find (before ++ (c ++ after)) (length before)) (append-nil q)
+    ∙ finds-branch 2 (short-veneer .code) d before after p jumps ∙ ap (λ (r : Role). Branch r 4 d) is-jump in
     subst (λ (f : Found). Leads f (pos 0 +ℤ d)) (sym e) (refl, from-zero d)
   where
     is-jump : aarch64 .role 2 (short-veneer .code) ≡ Unconditional
     is-jump = jump-word
+
     jumps : is-branch (aarch64 .role 2 (short-veneer .code)) ≡ true
     jumps = ap is-branch jump-word
 

@@ -70,8 +70,8 @@ turned-role : (k : ℕ) → k < 6 → (w : ℕ) (c : Condition) (s : Bool) → r
 turned-role = below-6 (λ k. (w : ℕ) (c : Condition) (s : Bool) → role-of k w ≡ Conditional c s → role-of k (turned w) ≡ Conditional c (not s))
     (λ w c s e. ap (λ (p : ℕ). test-role (flip p w)) (test-sense w c s e) ∙ test-turned w c s e)
     (λ w c s. by-flags w (λ p r. r ≡ Conditional c s → branch19-role (flip p w) ≡ Conditional c (not s))
-      (λ f e. rw (get-flip 0 25 7 w tt, f) (flags-turned w c s e))
-      (λ f e. rw (get-flip 24 25 7 w tt, f) (compare-turned w c s e)))
+    (λ f e. rw (get-flip 0 25 7 w tt, f) (flags-turned w c s e))
+    (λ f e. rw (get-flip 24 25 7 w tt, f) (compare-turned w c s e)))
     (λ w c s e. absurd (no-conditional _ c s e))
     (λ w c s e. absurd (never-conditional c s e)) (λ w c s e. absurd (never-conditional c s e)) (λ w c s e. absurd (never-conditional c s e))
 
@@ -93,8 +93,8 @@ pub inverted-reads : (k : ℕ) → k < 6 → (b : List ℕ) (c : Condition) (s :
 inverted-reads = below-6 (λ k. (b : List ℕ) (c : Condition) (s : Bool) → aarch64 .role k b ≡ Conditional c s → aarch64 .reads k (aarch64 .inverted k b) ≡ aarch64 .reads k b)
     (λ b c s e. rw (test-sense (word 4 b) c s e) (reading-flip 4 24 p14 15 b (lit< tt) tt))
     (λ b c s. by-flags (word 4 b) (λ p r. r ≡ Conditional c s → aarch64 .reads 1 (to-bytes 4 (flip p (word 4 b))) ≡ aarch64 .reads 1 b)
-      (λ f e. reading-flip 4 0 p19 20 b (lit< tt) tt)
-      (λ f e. reading-flip 4 24 p19 20 b (lit< tt) tt))
+    (λ f e. reading-flip 4 0 p19 20 b (lit< tt) tt)
+    (λ f e. reading-flip 4 24 p19 20 b (lit< tt) tt))
     (λ b c s e. absurd (no-conditional _ c s e))
     (λ b c s e. absurd (never-conditional c s e)) (λ b c s e. absurd (never-conditional c s e)) (λ b c s e. absurd (never-conditional c s e))
 
@@ -110,8 +110,8 @@ rest-turned : (k : ℕ) → k < 6 → (b : List ℕ) (c : Condition) (s : Bool) 
 rest-turned = below-6 (λ k. (b : List ℕ) (c : Condition) (s : Bool) → aarch64 .role k b ≡ Conditional c s → rest-word k (turned (word 4 b)) ≡ rest-word k (word 4 b))
     (λ b c s e. rw (sense-turned (word 4 b), test-sense (word 4 b) c s e) (rest-flip 32 24 p14 (word 4 b) tt (lit< tt) (word-fits 4 b)))
     (λ b c s. by-flags (word 4 b) (λ p r. r ≡ Conditional c s → put (sense-bit (flip p (word 4 b))) 1 (scatter p19 (flip p (word 4 b)) 0) 0 ≡ put p 1 (scatter p19 (word 4 b) 0) 0)
-      (λ f e. rw (get-flip 0 25 7 (word 4 b) tt, f) (rest-flip 32 0 p19 (word 4 b) tt (lit< tt) (word-fits 4 b)))
-      (λ f e. rw (get-flip 24 25 7 (word 4 b) tt, f) (rest-flip 32 24 p19 (word 4 b) tt (lit< tt) (word-fits 4 b))))
+    (λ f e. rw (get-flip 0 25 7 (word 4 b) tt, f) (rest-flip 32 0 p19 (word 4 b) tt (lit< tt) (word-fits 4 b)))
+    (λ f e. rw (get-flip 24 25 7 (word 4 b) tt, f) (rest-flip 32 24 p19 (word 4 b) tt (lit< tt) (word-fits 4 b))))
     (λ b c s e. absurd (no-conditional _ c s e))
     (λ b c s e. absurd (never-conditional c s e)) (λ b c s e. absurd (never-conditional c s e)) (λ b c s e. absurd (never-conditional c s e))
 
@@ -155,7 +155,7 @@ outside-from-rest : (ps : List Piece) (v w : ℕ) → SameSense v w → T (clear
     → to-bytes 4 (put (sense-bit v) 1 (scatter ps v 0) 0) ≡ to-bytes 4 (put (sense-bit w) 1 (scatter ps w 0) 0) → scatter ps v 0 ≡ scatter ps w 0
 outside-from-rest ps v w same t f g e =
     rest-same (sense-bit w) ps v w t
-      (ap (λ (p : ℕ). put p 1 (scatter ps v 0) 0) (sym (same .bit)) ∙ same-words _ _ (rest-fits ps v v f) (rest-fits ps w w g) e) (same .value)
+    (ap (λ (p : ℕ). put p 1 (scatter ps v 0) 0) (sym (same .bit)) ∙ same-words _ _ (rest-fits ps v v f) (rest-fits ps w w g) e) (same .value)
 
 clear-19 : (w : ℕ) → T (clear (piece (sense-bit w) 1 0) p19)
 clear-19 w =

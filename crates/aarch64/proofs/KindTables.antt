@@ -32,10 +32,10 @@ formatted = record {
   fits = below-6 (λ k. T (good 2 (format k))) tt tt tt tt tt tt;
   wide = below-6 (λ k. width (format k) ≡ 4) refl refl refl refl refl refl;
   near = below-6 (λ k. (d : ℤ) → Reaches aarch64 k d → mag d < 2 ^ top (format k))
-    (λ d r. within 32767 d (r .up) (r .down)) (λ d r. within 1048575 d (r .up) (r .down)) (λ d r. within 134217727 d (r .up) (r .down))
-    (λ d r. within 1048575 d (r .up) (r .down)) (λ d r. within 1048575 d (r .up) (r .down)) (λ d r. within 2147483647 d (r .up) (r .down));
+      (λ d r. within 32767 d (r .up) (r .down)) (λ d r. within 1048575 d (r .up) (r .down)) (λ d r. within 134217727 d (r .up) (r .down))
+      (λ d r. within 1048575 d (r .up) (r .down)) (λ d r. within 1048575 d (r .up) (r .down)) (λ d r. within 2147483647 d (r .up) (r .down));
   fresh = below-6 (λ k. (b : List ℕ) → (aarch64 .adds k ≡ true → aarch64 .reads k b ≡ pos 0) → Fresh (format k) b)
-    (λ b f. tt) (λ b f. tt) (λ b f. tt) (λ b f. tt) (λ b f. tt) (λ b f. f refl);
+      (λ b f. tt) (λ b f. tt) (λ b f. tt) (λ b f. tt) (λ b f. tt) (λ b f. f refl);
   patched-is = λ k b d. refl;
   reads-is = λ k b. refl;
   outside-is = λ k b. refl;

@@ -72,8 +72,8 @@ aarch64-lawful = record {
   inverted-rest = λ k b c s p. inverted-rest k (p .kind) b c s;
   rest-outside = λ k b c x s p q. rest-outside k (p .kind) b c x s;
   veneer-bounds = below-6 (λ k. aarch64 .supports k ≡ true → VeneerBounds aarch64 k (aarch64 .veneer k))
-    (λ e. short-bounds 0 refl) (λ e. short-bounds 1 refl) (λ e. long-bounds)
-    (λ e. absurd (false≢true e)) (λ e. absurd (false≢true e)) (λ e. absurd (false≢true e));
+      (λ e. short-bounds 0 refl) (λ e. short-bounds 1 refl) (λ e. long-bounds)
+      (λ e. absurd (false≢true e)) (λ e. absurd (false≢true e)) (λ e. absurd (false≢true e));
   no-chain = λ k e. no-chain k (ltb-false k 3 e);
   worst-high = lit≤ tt;
   worst-met = inr (2, lit< tt, refl, refl);

@@ -7,12 +7,6 @@ ghost use lib.Signed.{_≤ℤ_};
 ghost use Rattle.bits.specs.Formats.{reading, rewriting, clear-field};
 ghost use Rattle.aarch64.specs.Fields.{format};
 ghost use Rattle.aarch64.specs.Meaning.{turned, rest-word};
-use bits::copy_piece;
-use bits::flip_bit;
-use bits::get_field;
-use bits::put_field;
-use bits::read_word;
-use bits::sign_extend;
 use crate::roles::sense_bit_of;
 use crate::set::ADR21;
 use crate::set::BRANCH14;
@@ -20,6 +14,12 @@ use crate::set::BRANCH19;
 use crate::set::BRANCH26;
 use crate::set::LDR19;
 use crate::set::PC_REL32;
+use bits::copy_piece;
+use bits::flip_bit;
+use bits::get_field;
+use bits::put_field;
+use bits::read_word;
+use bits::sign_extend;
 
 // The word with a displacement's bits in the field of a kind.
 pub fn rewrite(kind: u32, code: u32, bits: u32) -> u32
@@ -65,7 +65,11 @@ fn clear(kind: u32, code: u32) -> u32
     requires { ⌜ kind < 6 ⌝ }
     ensures { λ r. ⌜ r ≡ clear-field (format kind) code ⌝ }
 {
-    if kind == PC_REL32 { 0 } else { rewrite(kind, code, 0) }
+    if kind == PC_REL32 {
+        0
+    } else {
+        rewrite(kind, code, 0)
+    }
 }
 
 // The word of a conditional with its field and its sense cleared.

@@ -8,12 +8,6 @@ ghost use Rattle.isa.specs.Finding.{is-branch-at, branch-at};
 ghost use Rattle.aarch64.specs.Fields.{format};
 ghost use Rattle.aarch64.specs.Meaning.{aarch64, is-long-veneer, jump-at-head, word-at};
 ghost use Rattle.aarch64.specs.Roles.{role-of};
-use bits::low_bits;
-use bits::read_word;
-use bits::write_word;
-use isa::Found;
-use isa::InstructionSet;
-use isa::Role;
 use crate::encoding::displacement_in;
 use crate::encoding::rest;
 use crate::encoding::rewrite;
@@ -21,6 +15,12 @@ use crate::encoding::turn;
 use crate::roles::branch19_role_of;
 use crate::roles::jump_role_of;
 use crate::roles::test_role_of;
+use bits::low_bits;
+use bits::read_word;
+use bits::write_word;
+use isa::Found;
+use isa::InstructionSet;
+use isa::Role;
 
 /// TBZ and TBNZ
 pub const BRANCH14: u32 = 0;
@@ -40,7 +40,26 @@ const SHORT_VENEER: [u8; 4] = [0, 0, 0, 0x14];
 
 // ldrsw x16, 16; adr x17, 12; add x16, x16, x17; br x16; and a word of data, the distance from itself
 const LONG_VENEER: [u8; 20] = [
-    0x90, 0, 0, 0x98, 0x71, 0, 0, 0x10, 0x10, 2, 0x11, 0x8b, 0, 2, 0x1f, 0xd6, 0, 0, 0, 0,
+    0x90,
+    0,
+    0,
+    0x98,
+    0x71,
+    0,
+    0,
+    0x10,
+    0x10,
+    2,
+    0x11,
+    0x8b,
+    0,
+    2,
+    0x1f,
+    0xd6,
+    0,
+    0,
+    0,
+    0,
 ];
 
 /// The AArch64 instruction set.
@@ -201,6 +220,10 @@ pub impl InstructionSet for AArch64 as AArch64Set {
     }
 
     fn find(&self, code: &[u8], offset: usize) -> Found {
-        if offset <= code.len() { jump_of(&code[offset..]) } else { Found::NoJump }
+        if offset <= code.len() {
+            jump_of(&code[offset..])
+        } else {
+            Found::NoJump
+        }
     }
 }

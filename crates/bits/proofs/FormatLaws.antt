@@ -57,7 +57,7 @@ sound e n ps h t =
       row = and-left _ _ t2;
       from-low = leb→le (first ps) e (and-left _ _ t3);
       multiple = leb→le e 32 (and-left _ _ t4);
-      short = ltb→lt h 32 (and-right (leb e 32) _ t4)
+      short = ltb→lt h 32 (and-right (leb e 32) _ t4);
     }
 
 -- a multiple of 2 ^ e is one of any smaller power
@@ -127,7 +127,7 @@ cleared : (e n : ℕ) (ps : List Piece) (h : ℕ) (b c : List ℕ) → T (good e
     → clearing (pieces n ps h) b ≡ clearing (pieces n ps h) c → scatter ps (word n b) 0 ≡ scatter ps (word n c) 0
 cleared e n ps h b c t same =
     let held : (x : ℕ) → x < 2 ^ (8 * n) → word n (to-bytes n (scatter ps x 0)) ≡ scatter ps x 0 =
-      λ x xl. word-to-bytes n (scatter ps x 0) (scatter-fits (8 * n) ps x 0 (sound e n ps h t .lies) xl) in
+    λ x xl. word-to-bytes n (scatter ps x 0) (scatter-fits (8 * n) ps x 0 (sound e n ps h t .lies) xl) in
     sym (held (word n b) (word-fits n b)) ∙ ap (word n) same ∙ held (word n c) (word-fits n c)
 
 -- bytes that are equal but for the field have the same bits apart from it
@@ -151,8 +151,8 @@ determined e (pieces n ps h) b c t lb lc ob oc same read =
     let g = signed-same h (gather ps (word n b)) (gather ps (word n c)) (fits (word n b)) (fits (word n c)) read in
     let o = cleared e n ps h b c t same in
     let back : (x : ℕ) → x < 2 ^ (8 * n) → scatter ps (scatter ps x 0) (gather ps x) ≡ x =
-      λ x xl. scatter-scatter (8 * n) ps x 0 (gather ps x) (s .lies) xl
-      ∙ scatter-gather ps (first ps) (h + 1) x (s .row) in
+    λ x xl. scatter-scatter (8 * n) ps x 0 (gather ps x) (s .lies) xl
+    ∙ scatter-gather ps (first ps) (h + 1) x (s .row) in
     same-bytes n b c lb lc ob oc
     (sym (back (word n b) (word-fits n b)) ∙ rw (o, g) (back (word n c) (word-fits n c)))
 determined e (whole n) b c t lb lc ob oc same read =

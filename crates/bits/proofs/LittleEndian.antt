@@ -30,7 +30,7 @@ value-to-bytes : (n x : ℕ) → value (to-bytes n x) ≡ x % 2 ^ (8 * n)
 value-to-bytes zero x = omega arith
 value-to-bytes (suc n) x =
     let m : x % 2 ^ (8 * suc n) ≡ (x / 256 % 2 ^ (8 * n)) * 256 + x % 256 =
-      ap (λ (k : ℕ). x % 2 ^ k) (omega arith) ∙ mod-pow-add x (8 * n) 8 in
+    ap (λ (k : ℕ). x % 2 ^ k) (omega arith) ∙ mod-pow-add x (8 * n) 8 in
     omega (arith, m, value-to-bytes n (x / 256))
 
 -- the bytes of a word hold the word
@@ -57,7 +57,6 @@ pub octets : (b : List ℕ) → T (are-octets b) → Octets b
 octets [] t i = omega arith
 octets (x ∷ xs) t zero = ltb→lt x 256 (and-left _ _ t)
 octets (x ∷ xs) t (suc i) = octets xs (and-right (ltb x 256) _ t) i
-
 
 -- n bytes hold a number of 8 * n bits
 value-lt : (n : ℕ) (b : List ℕ) → length b ≡ n → Octets b → value b < 2 ^ (8 * n)
@@ -94,9 +93,9 @@ signed-low h (negsuc n) le m =
     let w : j + (h + 1) ≡ 32 = omega arith in
     let nl : n < 2 ^ (h + 1) = omega arith in
     let c : (2 ^ 32 - 1 - n) % 2 ^ (h + 1) ≡ 2 ^ (h + 1) - 1 - n =
-      subst (λ (x : ℕ). (2 ^ x - 1 - n) % 2 ^ (h + 1) ≡ 2 ^ (h + 1) - 1 - n) w (not-mod j (h + 1) nl) in
+    subst (λ (x : ℕ). (2 ^ x - 1 - n) % 2 ^ (h + 1) ≡ 2 ^ (h + 1) - 1 - n) w (not-mod j (h + 1) nl) in
     let k : (2 ^ 32 - suc n) % 2 ^ (h + 1) ≡ 2 ^ (h + 1) - suc n =
-      ap (λ (x : ℕ). x % 2 ^ (h + 1)) (omega arith) ∙ c ∙ omega arith in
+    ap (λ (x : ℕ). x % 2 ^ (h + 1)) (omega arith) ∙ c ∙ omega arith in
     rw k (grind arith)
 
 -- numbers of h + 1 bits that read alike are equal
@@ -114,7 +113,7 @@ bits-whole e (negsuc n) le m z =
     let p : 2 ^ 32 ≡ 2 ^ j * 2 ^ e = ap (λ (x : ℕ). 2 ^ x) (sym s) ∙ pow-add 2 j e in
     let r : suc n ≡ q * 2 ^ e = omega (arith, split (suc n) e, z) in
     let t : 2 ^ 32 - suc n ≡ 2 ^ e * (2 ^ j - q) =
-      omega (arith, mul-sub (2 ^ e) (2 ^ j) q, mul-comm (2 ^ e) (2 ^ j), mul-comm (2 ^ e) q, p, r) in
+    omega (arith, mul-sub (2 ^ e) (2 ^ j) q, mul-comm (2 ^ e) (2 ^ j), mul-comm (2 ^ e) q, p, r) in
     ap (λ (x : ℕ). x % 2 ^ e) t ∙ mul-mod-right (2 ^ e) (2 ^ j - q)
 
 -- the bits of a displacement fit a word

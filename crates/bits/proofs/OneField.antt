@@ -68,7 +68,7 @@ get-put-above lo w x v a k h le =
     let j = a - (lo + w) in
     let e : lo + w + j ≡ a = omega arith in
     let over : (y : ℕ) → y / 2 ^ a ≡ y / 2 ^ (lo + w) / 2 ^ j =
-      λ y. ap (λ (n : ℕ). y / 2 ^ n) (sym e) ∙ sym (shr-shr y (lo + w) j) in
+    λ y. ap (λ (n : ℕ). y / 2 ^ n) (sym e) ∙ sym (shr-shr y (lo + w) j) in
     ap (λ (n : ℕ). n % 2 ^ k) (over _ ∙ ap (λ (n : ℕ). n / 2 ^ j) (put-high lo w x v h) ∙ sym (over x))
 
 -- a field below is as it was
@@ -78,8 +78,8 @@ get-put-below lo w x v a k le =
     let j = lo - (k + a) in
     let e : j + (k + a) ≡ lo = omega arith in
     let under : (y : ℕ) → y / 2 ^ a % 2 ^ k ≡ y % 2 ^ lo % 2 ^ (k + a) / 2 ^ a =
-      λ y. sym (field y k a)
-      ∙ ap (λ (n : ℕ). n / 2 ^ a) (sym (mod-mod-pow y j (k + a)) ∙ ap (λ (n : ℕ). y % 2 ^ n % 2 ^ (k + a)) e) in
+    λ y. sym (field y k a)
+    ∙ ap (λ (n : ℕ). n / 2 ^ a) (sym (mod-mod-pow y j (k + a)) ∙ ap (λ (n : ℕ). y % 2 ^ n % 2 ^ (k + a)) e) in
     under _ ∙ ap (λ (n : ℕ). n % 2 ^ (k + a) / 2 ^ a) (put-low lo w x v) ∙ sym (under x)
 
 -- a field of a field
@@ -113,7 +113,7 @@ pub put-get : (lo w x : ℕ) → put lo w x (get lo w x) ≡ x
 unfolding put get
 put-get lo w x =
     let m : x % 2 ^ (lo + w) ≡ (x / 2 ^ lo % 2 ^ w) * 2 ^ lo + x % 2 ^ lo =
-      ap (λ (n : ℕ). x % 2 ^ n) (add-comm lo w) ∙ mod-pow-add x w lo in
+    ap (λ (n : ℕ). x % 2 ^ n) (add-comm lo w) ∙ mod-pow-add x w lo in
     omega (arith, m, split x (lo + w))
 
 -- ---- what the two functions compute
@@ -121,20 +121,20 @@ put-get lo w x =
 -- `put_field`: the part above the field, the value and the part below, joined by `|`
 pub put-code : (lo w x v : ℕ) → lo + w ≤ 32 → x < 2 ^ 32 → v < 2 ^ w
     → bitOr (bitOr ((x / 2 ^ (lo + w) * 2 ^ (lo + w)) % 2 ^ 64) ((v * 2 ^ lo) % 2 ^ 64))
-      (bitAnd x ((1 * 2 ^ lo) % 2 ^ 64 - 1)) ≡ put lo w x v
+    (bitAnd x ((1 * 2 ^ lo) % 2 ^ 64 - 1)) ≡ put lo w x v
 unfolding put
 put-code lo w x v le xl vl =
     let q = x / 2 ^ (lo + w) in
     let vs : v * 2 ^ lo < 2 ^ (lo + w) = subst (λ (n : ℕ). v * 2 ^ lo < 2 ^ n) (add-comm w lo) (shl-lt w lo vl) in
     let big : 2 ^ (lo + w) ≤ 2 ^ 32 = pow-mono le in
     let a : q * 2 ^ (lo + w) % 2 ^ 64 ≡ q * 2 ^ w * 2 ^ lo =
-      mod-eq-of-lt (omega (arith, split x (lo + w))) ∙ shifted lo w q in
+    mod-eq-of-lt (omega (arith, split x (lo + w))) ∙ shifted lo w q in
     let b : v * 2 ^ lo % 2 ^ 64 ≡ v * 2 ^ lo = mod-eq-of-lt (omega arith) in
     let c : bitAnd x (1 * 2 ^ lo % 2 ^ 64 - 1) ≡ x % 2 ^ lo =
-      ap (λ (n : ℕ). bitAnd x (n - 1)) (one-shl lo 64 (omega arith)) ∙ and-mask x lo in
+    ap (λ (n : ℕ). bitAnd x (n - 1)) (one-shl lo 64 (omega arith)) ∙ and-mask x lo in
     let first : bitOr (q * 2 ^ w * 2 ^ lo) (v * 2 ^ lo) ≡ (q * 2 ^ w + v) * 2 ^ lo =
-      ap (λ (n : ℕ). bitOr n (v * 2 ^ lo)) (sym (shifted lo w q)) ∙ or-shifted q (lo + w) (v * 2 ^ lo) vs
-      ∙ ap (λ (n : ℕ). n + v * 2 ^ lo) (shifted lo w q) ∙ sym (add-mul (q * 2 ^ w) v (2 ^ lo)) in
+    ap (λ (n : ℕ). bitOr n (v * 2 ^ lo)) (sym (shifted lo w q)) ∙ or-shifted q (lo + w) (v * 2 ^ lo) vs
+    ∙ ap (λ (n : ℕ). n + v * 2 ^ lo) (shifted lo w q) ∙ sym (add-mul (q * 2 ^ w) v (2 ^ lo)) in
     rw (a, b, c, first, or-shifted (q * 2 ^ w + v) lo (x % 2 ^ lo) (low-lt lo x)) (sym (upper lo w q v (x % 2 ^ lo)))
 
 -- `get_field`: the word shifted down, and masked

@@ -21,11 +21,11 @@ bits-ext zero x y h k e = omega arith
 bits-ext (suc n) x y h k e =
     let p : 2 ^ suc n ≡ 2 ^ n * 2 = pow-suc 2 n in
     let up : (z i : ℕ) → z / 2 / 2 ^ i % 2 ≡ z / 2 ^ suc i % 2 =
-      λ z i. ap (λ (m : ℕ). m % 2) (shr-shr z 1 i ∙ ap (λ (m : ℕ). z / 2 ^ m) (omega arith)) in
+    λ z i. ap (λ (m : ℕ). m % 2) (shr-shr z 1 i ∙ ap (λ (m : ℕ). z / 2 ^ m) (omega arith)) in
     let high : x / 2 ≡ y / 2 =
-      bits-ext n (x / 2) (y / 2)
-      (div-below x 2 (2 ^ n) (omega arith) (omega arith)) (div-below y 2 (2 ^ n) (omega arith) (omega arith))
-      (λ i l. up x i ∙ e (suc i) (omega arith) ∙ sym (up y i)) in
+    bits-ext n (x / 2) (y / 2)
+    (div-below x 2 (2 ^ n) (omega arith) (omega arith)) (div-below y 2 (2 ^ n) (omega arith) (omega arith))
+    (λ i l. up x i ∙ e (suc i) (omega arith) ∙ sym (up y i)) in
     let low : x / 1 % 2 ≡ y / 1 % 2 = e 0 (omega arith) in
     omega (arith, high, low)
 
@@ -41,9 +41,9 @@ bit-put p x y v i h e =
       | inr l ↦ elim (cases-lt i (lo + w)) [
         | inl m ↦ (let s : lo + (i - lo) ≡ i = omega arith in
             let in-v : (z : ℕ) → get i 1 (put lo w z v) ≡ get (i - lo) 1 v =
-              λ z. ap (λ (a : ℕ). get a 1 (put lo w z v)) (sym s)
-              ∙ sym (get-get lo w (i - lo) 1 (put lo w z v) (omega arith))
-              ∙ ap (get (i - lo) 1) (get-put lo w z v h) in
+            λ z. ap (λ (a : ℕ). get a 1 (put lo w z v)) (sym s)
+            ∙ sym (get-get lo w (i - lo) 1 (put lo w z v) (omega arith))
+            ∙ ap (get (i - lo) 1) (get-put lo w z v h) in
             in-v x ∙ sym (in-v y))
         | inr m ↦ (get-put-above lo w x v i 1 h m ∙ e (or-right (leb (i + 1) lo) _ (le→leb _ _ m))
             ∙ sym (get-put-above lo w y v i 1 h m))

@@ -126,7 +126,7 @@ held-run [] a b u t = rw (eqb→eq a b t) (omega arith)
 held-run (p ∷ ps) a b u t =
     let i = held-run ps (a + p .wide) b u (run-rest a b p ps t) in
     let m : u % 2 ^ (a + p .wide) ≡ (u / 2 ^ a % 2 ^ p .wide) * 2 ^ a + u % 2 ^ a =
-      ap (λ (n : ℕ). u % 2 ^ n) (add-comm a (p .wide)) ∙ mod-pow-add u (p .wide) a in
+    ap (λ (n : ℕ). u % 2 ^ n) (add-comm a (p .wide)) ∙ mod-pow-add u (p .wide) a in
     rw (run-from a b p ps t) (omega (arith, i, m))
 
 -- the number that pieces in a row make, with any number l below bit a, ends below bit b
@@ -149,10 +149,11 @@ gather-above (p ∷ ps) a b x t =
     let w = p .wide in
     let g = get (p .at) w x in
     let r = gather-above ps (a + w) b x (run-rest a b p ps t) in
-    let q = r .0 in
-    (q * 2 ^ w + g,
+    let q = r .0 in (
+      q * 2 ^ w + g,
       ap (λ (n : ℕ). g * 2 ^ n + gather ps x) (run-from a b p ps t)
-      ∙ omega (arith, r .1, shifted a w q, add-mul (q * 2 ^ w) g (2 ^ a)))
+          ∙ omega (arith, r .1, shifted a w q, add-mul (q * 2 ^ w) g (2 ^ a)),
+    )
 
 -- writing back what was read, with any number l below bit a, changes nothing
 write-back : (ps : List Piece) (a b x l : ℕ) → T (runs a ps b) → l < 2 ^ a → scatter ps x (gather ps x + l) ≡ x

@@ -55,8 +55,8 @@ pub rest-flip : (m p : ℕ) (ps : List Piece) (x : ℕ) → T (laid m (piece p 1
 rest-flip m p ps x t l f =
     let qs = piece p 1 0 ∷ ps in
     let same : scatter qs (flip p x) 0 ≡ scatter qs x 0 =
-      bits-ext m (scatter qs (flip p x) 0) (scatter qs x 0) (scatter-fits m qs (flip p x) 0 t (flip-fits m p x l f)) (scatter-fits m qs x 0 t f)
-        (λ i _. bit-scatter qs (flip p x) x 0 i (λ c. get-flip p i 1 x (apart-swap (piece i 1 0) (piece p 1 0) (and-left _ _ c)))) in
+    bits-ext m (scatter qs (flip p x) 0) (scatter qs x 0) (scatter-fits m qs (flip p x) 0 t (flip-fits m p x l f)) (scatter-fits m qs x 0 t f)
+    (λ i _. bit-scatter qs (flip p x) x 0 i (λ c. get-flip p i 1 x (apart-swap (piece i 1 0) (piece p 1 0) (and-left _ _ c)))) in
     ap (put p 1 (scatter ps (flip p x) 0)) (sym cleared-bit) ∙ same ∙ ap (put p 1 (scatter ps x 0)) cleared-bit
 
 -- and together with the bit it is all that is outside the field
@@ -64,10 +64,11 @@ pub rest-same : (p : ℕ) (ps : List Piece) (x y : ℕ) → T (clear (piece p 1 
     → eqb (get p 1 x) 1 ≡ eqb (get p 1 y) 1 → scatter ps x 0 ≡ scatter ps y 0
 rest-same p ps x y t e s =
     let g : get p 1 (scatter ps x 0) ≡ get p 1 (scatter ps y 0) =
-      get-scatter (piece p 1 0) ps x 0 t ∙ same-bit (get p 1 x) (get p 1 y) (bit-lt p x) (bit-lt p y) s ∙ sym (get-scatter (piece p 1 0) ps y 0 t) in
+    get-scatter (piece p 1 0) ps x 0 t ∙ same-bit (get p 1 x) (get p 1 y) (bit-lt p x) (bit-lt p y) s ∙ sym (get-scatter (piece p 1 0) ps y 0 t) in
     back (scatter ps x 0) ∙ ap (λ (z : ℕ). put p 1 z (get p 1 (scatter ps x 0))) e ∙ ap (put p 1 (put p 1 (scatter ps y 0) 0)) g ∙ sym (back (scatter ps y 0))
   where
     same-bit : (a b : ℕ) → a < 2 → b < 2 → eqb a 1 ≡ eqb b 1 → a ≡ b
     same-bit a b h k e = grind arith
+
     back : (z : ℕ) → z ≡ put p 1 (put p 1 z 0) (get p 1 z)
     back z = sym (put-get p 1 z) ∙ sym (put-put p 1 z 0 (get p 1 z) (omega arith))

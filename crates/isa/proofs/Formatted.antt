@@ -41,7 +41,7 @@ module _ {i : Isa} {f : ℕ → Format} {e : ℕ} (s : Formatted i f e) where
   reads-patched k b d p =
       s .reads-is k (i .patched k b d) ∙ ap (reading (f k)) (s .patched-is k b d)
       ∙ reading-patching e (f k) b d (s .fits k (p .kind)) (s .near k (p .kind) d (p .reach))
-        (ap (λ (n : ℕ). natAbs d % n) (sym (s .aligned)) ∙ p .reach .whole) (s .fresh k (p .kind) b (p .fresh))
+      (ap (λ (n : ℕ). natAbs d % n) (sym (s .aligned)) ∙ p .reach .whole) (s .fresh k (p .kind) b (p .fresh))
 
   pub outside-patched : (k : ℕ) (b : List ℕ) (d : ℤ) → Patchable i k b d → i .outside k (i .patched k b d) ≡ i .outside k b
   outside-patched k b d p =
@@ -51,7 +51,7 @@ module _ {i : Isa} {f : ℕ → Format} {e : ℕ} (s : Formatted i f e) where
   pub field-only : (k : ℕ) (b c : List ℕ) → OfKind i k b → OfKind i k c → Octets b → Octets c → i .outside k b ≡ i .outside k c → i .reads k b ≡ i .reads k c → b ≡ c
   field-only k b c p q x y o r =
       determined e (f k) b c (s .fits k (p .kind)) (p .long ∙ sym (s .wide k (p .kind))) (q .long ∙ sym (s .wide k (p .kind))) x y
-        (sym (s .outside-is k b) ∙ o ∙ s .outside-is k c) (sym (s .reads-is k b) ∙ r ∙ s .reads-is k c)
+      (sym (s .outside-is k b) ∙ o ∙ s .outside-is k c) (sym (s .reads-is k b) ∙ r ∙ s .reads-is k c)
 
   -- a set that tries some kinds in turn finds each patched branch, if its kind is tried and no other takes the code
   -- for a branch

@@ -52,7 +52,6 @@ pub record Lawful (i : Isa) : Type 0 where
   pub align-power : (e : ℕ) × (e ≤ 3) × (i .align ≡ 2 ^ e)
   -- both ranges are at least the alignment, and the size is 1 to 8 and a multiple of it
   pub kind-bounds : (k : ℕ) → k < i .kinds → KindBounds i k
-
   -- a patch keeps the length, and gives bytes
   pub patched-long : (k : ℕ) (b : List ℕ) (d : ℤ) → Patchable i k b d → length (i .patched k b d) ≡ i .size k
   pub patched-octets : (k : ℕ) (b : List ℕ) (d : ℤ) → Patchable i k b d → Octets (i .patched k b d)
@@ -62,14 +61,12 @@ pub record Lawful (i : Isa) : Type 0 where
   pub outside-patched : (k : ℕ) (b : List ℕ) (d : ℤ) → Patchable i k b d → i .outside k (i .patched k b d) ≡ i .outside k b
   -- the reading and what is outside the field are all that there is
   pub field-only : (k : ℕ) (b c : List ℕ) → OfKind i k b → OfKind i k c → Octets b → Octets c → i .outside k b ≡ i .outside k c → i .reads k b ≡ i .reads k c → b ≡ c
-
   -- the role ignores the field
   pub role-outside : (k : ℕ) (b c : List ℕ) → OfKind i k b → OfKind i k c → i .outside k b ≡ i .outside k c → i .role k b ≡ i .role k c
   -- at most one kind gives bytes a role
   pub role-once : (k j : ℕ) (b : List ℕ) → OfKind i k b → OfKind i j b → is-branch (i .role k b) ≡ true → is-branch (i .role j b) ≡ true → k ≡ j
   -- an adding kind gives none
   pub adds-no-branch : (k : ℕ) (b : List ℕ) → OfKind i k b → i .adds k ≡ true → i .role k b ≡ NoBranch
-
   -- inverted bytes have the same condition, the other sense, the same displacement and the same rest
   pub inverted-long : (k : ℕ) (b : List ℕ) → OfKind i k b → length (i .inverted k b) ≡ i .size k
   pub inverted-octets : (k : ℕ) (b : List ℕ) → OfKind i k b → Octets (i .inverted k b)
@@ -78,20 +75,17 @@ pub record Lawful (i : Isa) : Type 0 where
   pub inverted-rest : (k : ℕ) (b : List ℕ) (c : Condition) (s : Bool) → OfKind i k b → i .role k b ≡ Conditional c s → i .rest k (i .inverted k b) ≡ i .rest k b
   -- the rest leaves out the sense alone
   pub rest-outside : (k : ℕ) (b c : List ℕ) (x : Condition) (s : Bool) → OfKind i k b → OfKind i k c → i .role k b ≡ Conditional x s → i .role k c ≡ Conditional x s → i .rest k b ≡ i .rest k c → i .outside k b ≡ i .outside k c
-
   -- veneers; a kind without one has no chain, and each veneer has one less than its use's, so chains are finite
   pub veneer-bounds : (k : ℕ) → k < i .kinds → i .supports k ≡ true → VeneerBounds i k (i .veneer k)
   pub no-chain : (k : ℕ) → i .supports k ≡ false → i .chain k ≡ 0
   -- the worst is the longest: a veneer of that length exists, or none at all
   pub worst-high : i .worst ≤ 64
   pub worst-met : ((k : ℕ) → k < i .kinds → i .supports k ≡ false) ⊎ ((k : ℕ) × (k < i .kinds) × (i .supports k ≡ true) × (length (i .veneer k .code) ≡ i .worst))
-
   -- the trap word is 1 to 8 bytes, a multiple of the alignment
   pub trap-low : 1 ≤ length (i .trap)
   pub trap-high : length (i .trap) ≤ 8
   pub trap-aligned : length (i .trap) % i .align ≡ 0
   pub trap-octets : Octets (i .trap)
-
   -- in any code, each patched branch is found where it begins: its role, its size and its displacement
   pub finds-branch : (k : ℕ) (b : List ℕ) (d : ℤ) (before after : List ℕ) → Patchable i k b d → is-branch (i .role k b) ≡ true
       → i .find (before ++ (i .patched k b d ++ after)) (length before) ≡ Branch (i .role k b) (i .size k) d

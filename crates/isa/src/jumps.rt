@@ -16,7 +16,8 @@ pub enum Family {
 }
 
 /// The condition of a branch: the family, which of the family's tests, and the registers tested, 0 where there is
-/// none. Two branches with equal conditions are true together.
+/// none. Each condition has one truth, so a set gives two branches one condition only where it means them to jump
+/// together.
 #[derive(Clone, Copy, PartialEq, Eq, Debug)]
 pub struct Condition {
     pub family: Family,
@@ -43,7 +44,7 @@ impl Role {
     {
         match self {
             Role::Unconditional => true,
-            Role::Conditional { condition: _, sense: _ } => true,
+            Role::Conditional { .. } => true,
             Role::NoBranch => false,
         }
     }
@@ -53,9 +54,15 @@ impl Role {
 #[derive(Clone, Copy, Debug)]
 pub enum Found {
     /// a branch of `size` bytes
-    Branch { role: Role, size: u32, displacement: i64 },
+    Branch {
+        role: Role,
+        size: u32,
+        displacement: i64,
+    },
     /// a veneer, which leads on
-    Veneer { displacement: i64 },
+    Veneer {
+        displacement: i64,
+    },
     /// nothing that jumps
     NoJump,
 }

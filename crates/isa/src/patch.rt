@@ -37,11 +37,17 @@ fn is_near<S: InstructionSet>(set: &S, kind: u32, displacement: i64) -> bool
     requires { ⌜ natAbs displacement % meaning (now set) .align ≡ 0 ⌝ }
     ensures { λ r. ⌜ When r (Reaches (meaning (now (set .entry))) kind displacement) (Reaches (meaning (now (set .entry))) kind displacement → ⊥) ⌝ }
 {
-    displacement <= set.max_pos_range(kind) as i64 && -(set.max_neg_range(kind) as i64) <= displacement
+    displacement <= set.max_pos_range(kind) as i64
+        && -(set.max_neg_range(kind) as i64) <= displacement
 }
 
 /// Says whether a displacement can be written, or what is wrong first.
-pub fn check_patch<S: InstructionSet>(set: &S, kind: u32, bytes: &[u8], displacement: i64) -> Result<(), PatchRefusal>
+pub fn check_patch<S: InstructionSet>(
+    set: &S,
+    kind: u32,
+    bytes: &[u8],
+    displacement: i64,
+) -> Result<(), PatchRefusal>
     ensures { λ r. ⌜ Cases r (λ _. Patchable (meaning (now (set .entry))) kind (now (bytes .entry)) displacement) (λ e. TurnedAway (meaning (now (set .entry))) kind (now (bytes .entry)) displacement e) ⌝ }
 {
     if kind >= set.kinds() {
@@ -63,7 +69,12 @@ pub fn check_patch<S: InstructionSet>(set: &S, kind: u32, bytes: &[u8], displace
 }
 
 /// Writes a displacement, or says why it can't be written and leaves the bytes as they are.
-pub fn checked_patch<S: InstructionSet>(set: &S, kind: u32, bytes: &mut [u8], displacement: i64) -> Result<(), PatchRefusal>
+pub fn checked_patch<S: InstructionSet>(
+    set: &S,
+    kind: u32,
+    bytes: &mut [u8],
+    displacement: i64,
+) -> Result<(), PatchRefusal>
     ensures verdict { λ r. ⌜ Cases r (λ _. Patchable (meaning (now (set .entry))) kind (now (bytes .entry)) displacement) (λ e. TurnedAway (meaning (now (set .entry))) kind (now (bytes .entry)) displacement e) ⌝ }
     ensures written { λ r. ⌜ now (bytes .exit) ≡ cond (isOk r) (meaning (now (set .entry)) .patched kind (now (bytes .entry)) displacement) (now (bytes .entry)) ⌝ }
 {
@@ -86,7 +97,10 @@ fn index(family: Family) -> u32
 fn same_condition(a: Condition, b: Condition) -> bool
     ensures { λ r. ⌜ r ≡ same-condition a b ⌝ }
 {
-    index(a.family) == index(b.family) && a.test == b.test && a.first == b.first && a.second == b.second
+    index(a.family) == index(b.family)
+        && a.test == b.test
+        && a.first == b.first
+        && a.second == b.second
 }
 
 // Two conditionals with one condition and two senses.
@@ -94,9 +108,16 @@ fn are_opposite(a: Role, b: Role) -> bool
     ensures { λ r. ⌜ r ≡ opposite a b ⌝ }
 {
     match (a, b) {
-        (Role::Conditional { condition: x, sense: s }, Role::Conditional { condition: y, sense: t }) => {
-            same_condition(x, y) && s != t
-        }
+        (
+            Role::Conditional {
+                condition: x,
+                sense: s,
+            },
+            Role::Conditional {
+                condition: y,
+                sense: t,
+            },
+        ) => { same_condition(x, y) && s != t }
         _ => false,
     }
 }

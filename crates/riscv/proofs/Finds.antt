@@ -57,12 +57,12 @@ pub finds-veneer : (d : ℤ) (before after : List ℕ) → Patchable riscv 1 (by
 finds-veneer d before after p =
     let q = riscv .patched 1 jump-code d in
     let e : riscv .find (before ++ ((q ++ []) ++ after)) (length before) ≡ Branch Unconditional 4 d =
-      ap (λ (c : List ℕ). riscv .find (before ++ (c ++ after)) (length before)) (append-nil q)
-      ∙ finds-branch 1 jump-code d before after p jumps ∙ ap (λ (r : Role). Branch r 4 d) is-jump in
+    ap (λ (c : List ℕ). riscv .find (before ++ (c ++ after)) (length before)) (append-nil q)
+    ∙ finds-branch 1 jump-code d before after p jumps ∙ ap (λ (r : Role). Branch r 4 d) is-jump in
     subst (λ (f : Found). Leads f (pos 0 +ℤ d)) (sym e) (refl, from-zero d)
   where
     is-jump : riscv .role 1 jump-code ≡ Unconditional
     is-jump = jump-word
+
     jumps : is-branch (riscv .role 1 jump-code) ≡ true
     jumps = ap is-branch jump-word
-

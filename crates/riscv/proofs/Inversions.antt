@@ -49,5 +49,5 @@ rest-fits b = put-fits 32 12 1 (scatter b-type (word 4 b) 0) 0 (lib.Dec.lit≤ t
 pub rest-outside : (k : ℕ) → k < 2 → (b c : List ℕ) (x : Condition) (s : Bool) → riscv .role k b ≡ Conditional x s → riscv .role k c ≡ Conditional x s → riscv .rest k b ≡ riscv .rest k c → riscv .outside k b ≡ riscv .outside k c
 rest-outside = below-2 (λ k. (b c : List ℕ) (x : Condition) (s : Bool) → riscv .role k b ≡ Conditional x s → riscv .role k c ≡ Conditional x s → riscv .rest k b ≡ riscv .rest k c → riscv .outside k b ≡ riscv .outside k c)
     (λ b c x s e f r. ap (to-bytes 4) (rest-same 12 b-type (word 4 b) (word 4 c) tt
-      (sym (word-to-bytes 4 _ (rest-fits b)) ∙ ap (word 4) r ∙ word-to-bytes 4 _ (rest-fits c)) (passed _ _ x _ s e .sense ∙ sym (passed _ _ x _ s f .sense))))
+    (sym (word-to-bytes 4 _ (rest-fits b)) ∙ ap (word 4) r ∙ word-to-bytes 4 _ (rest-fits c)) (passed _ _ x _ s e .sense ∙ sym (passed _ _ x _ s f .sense))))
     (λ b c x s e f r. absurd (no-conditional _ x s e))

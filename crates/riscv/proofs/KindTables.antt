@@ -28,7 +28,7 @@ formatted = record {
   fits = below-2 (λ k. T (good 2 (format k))) tt tt;
   wide = below-2 (λ k. width (format k) ≡ 4) refl refl;
   near = below-2 (λ k. (d : ℤ) → Reaches riscv k d → mag d < 2 ^ top (format k))
-    (λ d r. within 4095 d (r .up) (r .down)) (λ d r. within 1048575 d (r .up) (r .down));
+      (λ d r. within 4095 d (r .up) (r .down)) (λ d r. within 1048575 d (r .up) (r .down));
   fresh = below-2 (λ k. (b : List ℕ) → (riscv .adds k ≡ true → riscv .reads k b ≡ pos 0) → Fresh (format k) b) (λ b f. tt) (λ b f. tt);
   patched-is = λ k b d. refl;
   reads-is = λ k b. refl;

@@ -5,13 +5,13 @@ ghost use lib.ListN.{length};
 ghost use Rattle.bits.specs.Formats.{reading, rewriting};
 ghost use Rattle.riscv.specs.Fields.{format};
 ghost use Rattle.riscv.specs.Meaning.{turned, rest-word};
+use crate::set::B12;
 use bits::copy_piece;
 use bits::flip_bit;
 use bits::get_field;
 use bits::put_field;
 use bits::read_word;
 use bits::sign_extend;
-use crate::set::B12;
 
 // The word with a displacement's bits in the field of a kind.
 pub fn rewrite(kind: u32, code: u32, bits: u32) -> u32
@@ -40,10 +40,16 @@ pub fn displacement_in(kind: u32, bytes: &[u8]) -> i64
     let code = read_word(bytes);
     if kind == B12 {
         let low = get_field(code, 8, 4) * 2 + get_field(code, 25, 6) * 32;
-        sign_extend(low + get_field(code, 7, 1) * 2048 + get_field(code, 31, 1) * 4096, 12)
+        sign_extend(
+            low + get_field(code, 7, 1) * 2048 + get_field(code, 31, 1) * 4096,
+            12,
+        )
     } else {
         let low = get_field(code, 21, 10) * 2 + get_field(code, 20, 1) * 2048;
-        sign_extend(low + get_field(code, 12, 8) * 4096 + get_field(code, 31, 1) * 1048576, 20)
+        sign_extend(
+            low + get_field(code, 12, 8) * 4096 + get_field(code, 31, 1) * 1048576,
+            20,
+        )
     }
 }
 

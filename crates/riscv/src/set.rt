@@ -8,18 +8,18 @@ ghost use Rattle.isa.specs.Finding.{is-branch-at, branch-at};
 ghost use Rattle.riscv.specs.Fields.{format};
 ghost use Rattle.riscv.specs.Meaning.{riscv, jump-at-head};
 ghost use Rattle.riscv.specs.Roles.{role-of};
-use bits::low_bits;
-use bits::read_word;
-use bits::write_word;
-use isa::Found;
-use isa::InstructionSet;
-use isa::Role;
 use crate::encoding::displacement_in;
 use crate::encoding::rest;
 use crate::encoding::rewrite;
 use crate::encoding::turn;
 use crate::roles::branch_role_of;
 use crate::roles::jump_role_of;
+use bits::low_bits;
+use bits::read_word;
+use bits::write_word;
+use isa::Found;
+use isa::InstructionSet;
+use isa::Role;
 
 /// BEQ, BNE, BLT, BGE, BLTU and BGEU
 pub const B12: u32 = 0;
@@ -90,7 +90,11 @@ pub impl InstructionSet for RiscV as RiscVSet {
     }
 
     fn max_pos_range(&self, kind: u32) -> u32 {
-        if kind == B12 { (1 << 12) - 1 } else { (1 << 20) - 1 }
+        if kind == B12 {
+            (1 << 12) - 1
+        } else {
+            (1 << 20) - 1
+        }
     }
 
     // Displacements are in two's complement.
@@ -150,6 +154,10 @@ pub impl InstructionSet for RiscV as RiscVSet {
     }
 
     fn find(&self, code: &[u8], offset: usize) -> Found {
-        if offset <= code.len() { jump_of(&code[offset..]) } else { Found::NoJump }
+        if offset <= code.len() {
+            jump_of(&code[offset..])
+        } else {
+            Found::NoJump
+        }
     }
 }

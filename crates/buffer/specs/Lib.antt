@@ -1,0 +1,5 @@
+pub mod Checks
+pub mod Regions
+pub mod Rules
+pub mod Standing
+pub mod View

@@ -1,0 +1,2 @@
+mod HexLaws
+mod JumpLaws

@@ -1,0 +1,4 @@
+pub mod Hex
+pub mod Report
+pub mod Request
+pub mod Sets

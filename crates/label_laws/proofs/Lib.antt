@@ -1,0 +1,13 @@
+pub mod Pigeonhole
+pub mod Leads
+pub mod Orderly
+pub mod Edits
+pub mod Moved
+pub mod Redirected
+pub mod Distinct
+pub mod Tables
+pub mod Goes
+pub mod Simplified
+pub mod Islands
+pub mod Calls
+pub mod Runs

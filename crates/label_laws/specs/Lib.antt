@@ -1,0 +1,4 @@
+pub mod Leads
+pub mod Moves
+pub mod Sound
+pub mod Laws

@@ -1,0 +1,15 @@
+pub mod Cases
+pub mod Standing
+pub mod Kept
+pub mod Rounds
+pub mod Overwritten
+pub mod Steady
+pub mod Ending
+pub mod Settled
+pub mod Removed
+pub mod Patched
+pub mod Within
+pub mod Multiples
+pub mod Uses
+pub mod Orderly
+pub mod Balance
