@@ -5,6 +5,7 @@
 //! meaning in `specs/Meaning`. A short branch has a jump (`b`) as its veneer, and a jump a load of a 32-bit distance
 //! that is added to the program counter; those veneers use the registers 16 and 17, so a branch that tests one of
 //! these is none that the buffer may move.
+#![tactic(auto)]
 
 mod encoding;
 mod roles;

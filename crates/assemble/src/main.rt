@@ -3,6 +3,7 @@
 //! The standard input has one call a line, and `docs/SCRIPT.md` has the lines and what is printed for them. A line that
 //! can't be read as a call ends the script, and the program with status 1; the calls before it are made, and what they
 //! answered is printed.
+#![tactic(auto)]
 
 ghost use Rattle.std.specs.Prelude.{IfOk};
 ghost use Rattle.buffer.specs.View.{view};

@@ -4,6 +4,7 @@
 //! a scattered field is a list of such pieces, each with the bits of the number that it holds. The definitions in
 //! `specs/` say this by quotients and remainders; the functions here do it by shifts and masks, and are proved
 //! equal. Formats, and the one law that what is read after a patch is the displacement, are built on them.
+#![tactic(auto)]
 
 mod fields;
 mod pieces;

@@ -1,4 +1,5 @@
 //! Tests of the buffer: lists of calls, and what each must answer.
+#![tactic(auto)]
 
 #[cfg(test)]
 mod calls;

@@ -2,6 +2,7 @@
 //!
 //! Each is a function over the tables, and its contract is that its answer and the tables after it are those of the
 //! call's definition. The refusals stand in the order of checking, and a refused call changes nothing.
+#![tactic(auto)]
 
 pub mod data;
 pub mod deferred;

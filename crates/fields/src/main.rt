@@ -4,6 +4,7 @@
 //! hexadecimal pairs with the lowest address first, and the displacement to write into them. For each the program
 //! prints the line and, indented, what the set makes of it, or one line that says why it is not done. An empty line
 //! and one that begins with `#` are passed over.
+#![tactic(auto)]
 
 mod line;
 mod show;

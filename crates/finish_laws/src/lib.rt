@@ -3,6 +3,7 @@
 //!
 //! Each law is the contract of a function that does nothing. `specs/Laws` states them, and `specs/Islands` has islands
 //! one after another as a relation, which counts them without a bound.
+#![tactic(auto)]
 
 ghost use Rattle.finish_laws.specs.Laws.{FinishedIsDone, IslandsBounded, RefusedFinishKeeps, BrokenFinish, IslandsReachEnd, PoolKeeps};
 

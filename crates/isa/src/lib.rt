@@ -11,6 +11,7 @@
 //! the meaning says. So code and proofs above this crate hold for every set that keeps the laws.
 //!
 //! A set is a value and its methods take `&self`, so that one set can be made from another.
+#![tactic(auto)]
 
 pub mod jumps;
 mod patch;

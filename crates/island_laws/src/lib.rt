@@ -2,6 +2,7 @@
 //!
 //! Each law is the contract of a function that does nothing. `specs/Laws` states them, and `specs/Waiting` says what may
 //! become of the uses that wait.
+#![tactic(auto)]
 
 ghost use Rattle.island_laws.specs.Laws.{IslandsMoveNoLabel, IslandsWriteInFieldsOnly, NoUseLostOrDoubled, PatchedUsesRead};
 

@@ -5,6 +5,7 @@
 //! the record `JumpSet` of `specs/Report`, which holds each part to the meaning of the set.
 //!
 //! `Request` and `text` have what programs need to read what is asked and to print what is told.
+#![tactic(auto)]
 
 mod jump;
 mod report;

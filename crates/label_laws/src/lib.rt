@@ -3,6 +3,7 @@
 //!
 //! Each law is the contract of a function that does nothing. `specs/Laws` states them. `specs/Sound` has what holds of
 //! labels, and of every table that names labels, after each call; the laws follow from it.
+#![tactic(auto)]
 
 ghost use Rattle.label_laws.specs.Laws.{AliasesEnd, LabelsNeverMoveForward};
 

@@ -8,6 +8,7 @@
 //!
 //! Nothing here is run. The rows and the refusals are the ones that the code uses, the contracts of the code cite
 //! the definitions, and `laws` says what holds of every list of calls.
+#![tactic(auto)]
 
 pub mod laws;
 pub mod refusals;

@@ -1,4 +1,5 @@
 //! What may be asked of the tables at any time. Nothing changes by asking.
+#![tactic(auto)]
 
 ghost use Rattle.std.specs.Prelude.{◌≡◌, ℕ, ◌+◌, ◌*◌, ◌≤◌, length, sum_by};
 ghost use Rattle.model.specs.Constants.{constant_row};

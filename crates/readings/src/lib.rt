@@ -23,6 +23,8 @@
 //! - `Placing`, `Aliases`, `Unplaced`: where the draft places a label; aliases end; a label without a place leads nowhere.
 //! - `Steps`, `Stands`, `Meaning`: what a step in the code does at each cell, and what an offset means.
 //! - `Agreement`, `EveryStart`: the two readings agree, from every start.
+#![tactic(auto)]
+
 ghost use Rattle.readings.specs.Layouts.{LayoutsAgree};
 
 /// Code that is laid out as its draft grew does what the draft says, from every start.

@@ -3,6 +3,7 @@
 //! `replay_calls` makes any list of calls, granted and refused in any mixture, and answers what each gave. Its contract
 //! (`specs/Replays`) is where the claims about lists of calls stand: the answers, the tables and the counts are those of
 //! the definitions in turn, and no use is ever lost.
+#![tactic(auto)]
 
 pub mod calls;
 mod replay;

@@ -8,6 +8,7 @@
 //! displacement stands from bit 12 on. A branch, on a test of the flags, reaches from -16 to 15 and has a jump as its
 //! veneer; a jump reaches from -64 to 63 and has a far jump as its veneer; a far jump reaches a million bytes and has
 //! none. A load reaches as little as a branch, has no role and no veneer. A trap has two bytes.
+#![tactic(auto)]
 
 mod encoding;
 mod set;

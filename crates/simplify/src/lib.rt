@@ -6,6 +6,7 @@
 //!
 //! `rules` names what may be done to the last standing branch, `attempts` tries it, and `rounds` goes on until no rule
 //! applies. Each rule that applies cuts a branch or takes a label from where it stood, so that the rounds end.
+#![tactic(auto)]
 
 pub mod attempts;
 pub mod rounds;

@@ -19,6 +19,7 @@
 //! but not where it stands. Making labels aliases touches labels alone.
 //!
 //! The fields are public: whoever changes one proves these facts again.
+#![tactic(auto)]
 
 pub mod capacities;
 pub mod table;

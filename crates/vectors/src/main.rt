@@ -4,6 +4,7 @@
 //! with displacement 0 and with the one that stands between them. The program patches the former, compares with the
 //! latter, and reads the displacement back from them. It prints each line for which that fails, and then how many
 //! encodings are equal.
+#![tactic(auto)]
 
 mod tally;
 mod vector;
