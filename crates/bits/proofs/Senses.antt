@@ -1,5 +1,5 @@
 -- A branch's sense is a bit apart from the field. What turning it round changes, and what clearing it loses.
-use Rattle.std.proofs.Common.{◌≡◌, ℕ, zero, suc, ◌+◌, ◌-◌, ◌*◌, ◌^◌, ◌<◌, ◌≤◌, Bool, true, false, not, T, eqb, List, [], ◌∷◌, sym, refl, ap, ◌∙◌, arith}
+use Rattle.std.proofs.Common.{◌≡◌, ℕ, zero, suc, ◌-◌, ◌*◌, ◌^◌, ◌<◌, not, T, eqb, List, ◌∷◌, sym, refl, ap, ◌∙◌, arith}
 use Rattle.bits.specs.Fields.{get, put, flip, Piece, piece, scatter, gather}
 use Rattle.bits.specs.Formats.{pieces, reading}
 use Rattle.bits.specs.Words.{word, to_bytes, signed}

@@ -2,15 +2,15 @@ use Rattle.std.proofs.Common.{ℕ, ◌^◌, ◌<◌, sym, subst}
 use Rattle.bits.proofs.OneField.{put_code, put-fits}
 use Rattle.bits.proofs.fields.put_field.Goals as goal
 
-pub overflow-cast-result-3 : goal.overflow-cast-result-3
-overflow-cast-result-3 c =
+pub overflow_cast-result-3 : goal.overflow_cast-result-3
+overflow_cast-result-3 c =
     let a = c.args in
     let f : a.code < 2 ^ 32 = c.ranges.code.fits in
-    let e = put_code a.lo a.width a.code a.value c.requires.0 f c.requires.1 in
-    let p = put-fits 32 a.lo a.width a.code a.value c.requires.0 f c.requires.1 in
+    let e = put_code a.lo a.width a.code a.value c.requires.width_bound f c.requires.value_bound in
+    let p = put-fits 32 a.lo a.width a.code a.value c.requires.width_bound f c.requires.value_bound in
     record { fits = subst (λ (n : ℕ). n < 2 ^ 32) (sym e) p }
 
 pub returns : goal.returns
 returns c =
     let a = c.args in
-    put_code a.lo a.width a.code a.value c.requires.0 c.ranges.code.fits c.requires.1
+    put_code a.lo a.width a.code a.value c.requires.width_bound c.ranges.code.fits c.requires.value_bound

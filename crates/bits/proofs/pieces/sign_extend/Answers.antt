@@ -1,4 +1,4 @@
-use Rattle.std.proofs.Common.{◌≡◌, ℕ, suc, ◌+◌, ◌-◌, ◌*◌, ◌%◌, ◌^◌, ◌<◌, ◌≤◌, cond, ltb, pos, negsuc, ◌-ℤ◌, sym, ap, ◌∙◌, arith, pow_mono, pow-add, w64, to_z, of_z}
+use Rattle.std.proofs.Common.{◌≡◌, ℕ, suc, ◌+◌, ◌-◌, ◌*◌, ◌%◌, ◌^◌, ◌<◌, ◌≤◌, ltb, pos, negsuc, ◌-ℤ◌, sym, ap, ◌∙◌, arith, pow_mono, pow-add, w64, to_z, of_z}
 use Rattle.std.proofs.lemmas.Nat.{one_shl}
 use Rattle.std.proofs.lemmas.Int.{ints}
 use Rattle.std.proofs.lemmas.Bool.{lt-ltb, le-ltb, cond-true, cond-false}
@@ -18,8 +18,8 @@ signed_high : (h x : ℕ) → 2 ^ h ≤ x → signed h x ≡ negsuc (2 * 2 ^ h -
 unfolding signed
 signed_high h x l = cond-false (ltb x (2 ^ h)) (pos x) (negsuc (2 ^ (h + 1) - suc x)) (le-ltb x (2 ^ h) l) ∙ ap (λ (n : ℕ). negsuc (n - suc x)) (double h)
 
-pub overflow-sub-result : goal.overflow-sub-result
-overflow-sub-result c =
+pub overflow_sub-result : goal.overflow_sub-result
+overflow_sub-result c =
     let e = one_shl c.args.high 64 (omega arith) in
     let d = double c.args.high in
     omega (arith, e, d)
@@ -37,7 +37,7 @@ returns-then-value-half c =
     let x = c.args.value in
     let e : 1 * 2 ^ h % 18446744073709551616 ≡ 2 ^ h = one_shl h 64 (omega arith) in
     let b : x < 2 ^ h = omega (arith, e) in
-    let l = low h c.requires.0 in
+    let l = low h c.requires.high_bound in
     let p = positive (2 ^ h) x l b in
     record { value = p ∙ sym (signed_low_half h x b); up = rw p (omega (arith, ints)); down = rw p (omega (arith, ints)) }
 
@@ -48,6 +48,6 @@ returns-else-value-half c =
     let e : 1 * 2 ^ h % 18446744073709551616 ≡ 2 ^ h = one_shl h 64 (omega arith) in
     let b : 2 ^ h ≤ x = omega (arith, e) in
     let d = double h in
-    let l = low h c.requires.0 in
+    let l = low h c.requires.high_bound in
     let p = negative (2 ^ h) x l b (omega (arith, d)) in
     rw e (record { value = p ∙ sym (signed_high h x b); up = rw p (omega (arith, ints)); down = rw p (omega (arith, ints)) })

@@ -9,4 +9,4 @@ four_bytes x =
     rw (two, three)
 
 pub returns : goal.returns
-returns c = c.copy-from-slice.ensures.after ∙ c.to-le-bytes.ensures ∙ four_bytes c.args.value
+returns c = c.copy_from_slice.ensures.after ∙ c.to_le_bytes.ensures ∙ four_bytes c.args.value
