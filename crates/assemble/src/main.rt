@@ -72,7 +72,7 @@ fn replay_script<S: InstructionSet + Drop>(
     set: S,
     script: &Script,
 ) -> Result<Replay<S>, AllocError>
-    ensures { IfOk result (λ p. Replayed (meaning set) (calls_meant script.now) p) }
+    ensures { IfOk result (λ p. Replayed (S.meaning set) (calls_meant script.now) p) }
 {
     let calls = script.calls(heap)?;
     replay_calls(heap, set, calls.as_slice())

@@ -55,8 +55,8 @@ pub fn parse_line(heap: Global, line: &str) -> Result<Request, LineError>
 
 // Why the set turns a request away, with the set's numbers.
 fn explain<S: InstructionSet>(set: &S, request: &Request, refusal: PatchRefusal) -> LineError
-    requires { TurnedAway (meaning set.now) request.now.kind request.now.bytes.items request.now.displacement refusal }
-    ensures { result ≡ explained (meaning set.now) request.now.kind refusal }
+    requires { TurnedAway (S.meaning set.now) request.now.kind request.now.bytes.items request.now.displacement refusal }
+    ensures { result ≡ explained (S.meaning set.now) request.now.kind refusal }
 {
     let kind = request.kind;
     match refusal {
@@ -79,7 +79,7 @@ fn report_by<S: InstructionSet>(
     set: &S,
     request: &Request,
 ) -> Result<JumpReport, LineError>
-    ensures { Done (meaning set.now) request.now result }
+    ensures { Done (S.meaning set.now) request.now result }
 {
     match set_jump(
         heap,

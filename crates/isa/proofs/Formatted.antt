@@ -1,5 +1,5 @@
 -- Sets whose displacements stand in formats of `bits`: the laws of fields, and of finding a branch, once for all.
-use Rattle.std.proofs.Common.{◌≡◌, ℕ, ◌%◌, ◌^◌, ◌<◌, true, T, List, ◌++◌, length, drop, ℤ, pos, nat_abs, sym, refl, ap, ◌∙◌, subst}
+use Rattle.std.proofs.Common.{◌≡◌, ℕ, ◌%◌, ◌^◌, ◌<◌, true, T, List, ◌++◌, length, drop, ℤ, pos, nat_abs, sym, ap, ◌∙◌, subst}
 use lib.Signed.{mag}
 use Rattle.bits.specs.Formats.{Format, width, reading, patching, clearing}
 use Rattle.bits.specs.Words.{Octets}

@@ -2,7 +2,6 @@
 use Rattle.std.specs.Prelude.{◌≡◌, ℕ, ◌+◌, ◌%◌, ◌^◌, ◌<◌, ◌≤◌, Bool, true, false, not, ◌⊎◌, List, ◌++◌, length, ℤ, pos, ◌+ℤ◌}
 use Rattle.bits.specs.Words.{Octets}
 use Rattle.isa.specs.declared.jumps.Condition.{Condition}
-use Rattle.isa.specs.declared.jumps.Role.{Role}
 use Rattle.isa.specs.declared.jumps.Role.TheVariants.{Unconditional, Conditional, NoBranch}
 use Rattle.isa.specs.declared.jumps.Found.{Found}
 use Rattle.isa.specs.declared.jumps.Found.TheVariants.{Branch, Veneer, NoJump}

@@ -11,24 +11,24 @@ use crate::set::InstructionSet;
 
 // Whether the bytes may be patched as they are: an adding kind's must read 0.
 fn is_fresh<S: InstructionSet>(set: &S, kind: u32, bytes: &[u8]) -> bool
-    requires { OfKind (meaning set.now) kind bytes.now }
-    ensures { MatchBool result (Fresh (meaning set.now) kind bytes.now) (Fresh (meaning set.now) kind bytes.now → ⊥) }
+    requires { OfKind (S.meaning set.now) kind bytes.now }
+    ensures { MatchBool result (Fresh (S.meaning set.now) kind bytes.now) (Fresh (S.meaning set.now) kind bytes.now → ⊥) }
 {
     !set.is_adding(kind) || set.read(kind, bytes) == 0
 }
 
 // Whether a displacement is a multiple of the alignment.
 fn is_aligned<S: InstructionSet>(set: &S, displacement: i64) -> bool
-    ensures { result ≡ (unsigned_abs displacement % (meaning set.now).align == 0) }
+    ensures { result ≡ (unsigned_abs displacement % (S.meaning set.now).align == 0) }
 {
     displacement.unsigned_abs() % set.align() as u64 == 0
 }
 
 // Whether a multiple of the alignment is within the kind's range.
 fn is_near<S: InstructionSet>(set: &S, kind: u32, displacement: i64) -> bool
-    requires kind_bound { kind < (meaning set.now).kinds }
-    requires set_value { unsigned_abs displacement % (meaning set.now).align ≡ 0 }
-    ensures { MatchBool result (Reaches (meaning set.now) kind displacement) (Reaches (meaning set.now) kind displacement → ⊥) }
+    requires kind_bound { kind < (S.meaning set.now).kinds }
+    requires set_value { unsigned_abs displacement % (S.meaning set.now).align ≡ 0 }
+    ensures { MatchBool result (Reaches (S.meaning set.now) kind displacement) (Reaches (S.meaning set.now) kind displacement → ⊥) }
 {
     displacement <= set.max_pos_range(kind) as i64
         && -(set.max_neg_range(kind) as i64) <= displacement
@@ -41,7 +41,7 @@ pub fn check_patch<S: InstructionSet>(
     bytes: &[u8],
     displacement: i64,
 ) -> Result<(), PatchRefusal>
-    ensures { MatchResult result (λ _. Patchable (meaning set.now) kind bytes.now displacement) (λ e. TurnedAway (meaning set.now) kind bytes.now displacement e) }
+    ensures { MatchResult result (λ _. Patchable (S.meaning set.now) kind bytes.now displacement) (λ e. TurnedAway (S.meaning set.now) kind bytes.now displacement e) }
 {
     if kind >= set.kinds() {
         return Err(PatchRefusal::NoSuchKind);
@@ -68,8 +68,8 @@ pub fn checked_patch<S: InstructionSet>(
     bytes: &mut [u8],
     displacement: i64,
 ) -> Result<(), PatchRefusal>
-    ensures verdict { MatchResult result (λ _. Patchable (meaning set.now) kind bytes.old displacement) (λ e. TurnedAway (meaning set.now) kind bytes.old displacement e) }
-    ensures written { bytes.new ≡ (if is_ok result then (meaning set.now).patched kind bytes.old displacement else bytes.old) }
+    ensures verdict { MatchResult result (λ _. Patchable (S.meaning set.now) kind bytes.old displacement) (λ e. TurnedAway (S.meaning set.now) kind bytes.old displacement e) }
+    ensures written { bytes.new ≡ (if is_ok result then (S.meaning set.now).patched kind bytes.old displacement else bytes.old) }
 {
     check_patch(set, kind, bytes, displacement)?;
     set.patch(kind, bytes, displacement);
@@ -118,8 +118,8 @@ fn are_opposite(a: Role, b: Role) -> bool
 /// Whether the second bytes are an inversion of the first: the same condition, the other sense, and all else
 /// outside the field equal.
 pub fn is_inversion<S: InstructionSet>(set: &S, kind: u32, bytes: &[u8], other: &[u8]) -> bool
-    requires { kind < (meaning set.now).kinds }
-    ensures { result ≡ inversion (meaning set.now) kind bytes.now other.now }
+    requires { kind < (S.meaning set.now).kinds }
+    ensures { result ≡ inversion (S.meaning set.now) kind bytes.now other.now }
 {
     let size = set.patch_size(kind) as usize;
     if bytes.len() != size || other.len() != size {

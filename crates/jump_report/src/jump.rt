@@ -17,8 +17,8 @@ fn patched_copy<S: InstructionSet>(
     bytes: &[u8],
     displacement: i64,
 ) -> Result<Vec<u8>, AllocError>
-    requires { Patchable (meaning set.now) kind bytes.now displacement }
-    ensures { IfOk result (λ v. v.items ≡ (meaning set.now).patched kind bytes.now displacement) }
+    requires { Patchable (S.meaning set.now) kind bytes.now displacement }
+    ensures { IfOk result (λ v. v.items ≡ (S.meaning set.now).patched kind bytes.now displacement) }
 {
     let mut patched = Vec::from_slice(heap, bytes)?;
     set.patch(kind, &mut patched, displacement);
@@ -32,8 +32,8 @@ fn inverted_copy<S: InstructionSet>(
     kind: u32,
     bytes: &[u8],
 ) -> Result<Vec<u8>, AllocError>
-    requires { OfKind (meaning set.now) kind bytes.now }
-    ensures { IfOk result (λ v. v.items ≡ (meaning set.now).inverted kind bytes.now) }
+    requires { OfKind (S.meaning set.now) kind bytes.now }
+    ensures { IfOk result (λ v. v.items ≡ (S.meaning set.now).inverted kind bytes.now) }
 {
     let mut inverted = Vec::from_slice(heap, bytes)?;
     set.invert(kind, &mut inverted);
@@ -48,8 +48,8 @@ fn other_sense_of<S: InstructionSet>(
     bytes: &[u8],
     role: Role,
 ) -> Result<Option<Vec<u8>>, AllocError>
-    requires { OfKind (meaning set.now) kind bytes.now }
-    ensures { IfOk result (λ o. option_map vec_items o ≡ other_sense (meaning set.now) kind bytes.now role) }
+    requires { OfKind (S.meaning set.now) kind bytes.now }
+    ensures { IfOk result (λ o. option_map vec_items o ≡ other_sense (S.meaning set.now) kind bytes.now role) }
 {
     match role {
         Role::Conditional {
@@ -66,9 +66,9 @@ fn made_veneer<S: InstructionSet>(
     set: &S,
     kind: u32,
 ) -> Result<(Vec<u8>, u32, u32), AllocError>
-    requires kind_bound { kind < (meaning set.now).kinds }
-    requires kind_value { (meaning set.now).supports kind ≡ true }
-    ensures { IfOk result (λ v. Parts ((meaning set.now).veneer kind) v.0.items v.1 v.2) }
+    requires kind_bound { kind < (S.meaning set.now).kinds }
+    requires kind_value { (S.meaning set.now).supports kind ≡ true }
+    ensures { IfOk result (λ v. Parts ((S.meaning set.now).veneer kind) v.0.items v.1 v.2) }
 {
     let mut code = vec![in heap; 0; set.veneer_size(kind) as usize]?;
     let (place, own) = set.generate_veneer(kind, &mut code);
@@ -81,8 +81,8 @@ fn veneer_of<S: InstructionSet>(
     set: &S,
     kind: u32,
 ) -> Result<Option<VeneerReport>, AllocError>
-    requires { kind < (meaning set.now).kinds }
-    ensures { IfOk result (λ o. VeneerTold (meaning set.now) kind o) }
+    requires { kind < (S.meaning set.now).kinds }
+    ensures { IfOk result (λ o. VeneerTold (S.meaning set.now) kind o) }
 {
     if !set.supports_veneer(kind) {
         return Ok(None);
@@ -98,8 +98,8 @@ fn report_on<S: InstructionSet>(
     kind: u32,
     patched: Vec<u8>,
 ) -> Result<JumpReport, AllocError>
-    requires { OfKind (meaning set.now) kind patched.items }
-    ensures { IfOk result (λ j. Told (meaning set.now) kind patched.items j) }
+    requires { OfKind (S.meaning set.now) kind patched.items }
+    ensures { IfOk result (λ j. Told (S.meaning set.now) kind patched.items j) }
 {
     let reads = set.read(kind, &patched);
     let role = set.role(kind, &patched);
@@ -124,8 +124,8 @@ fn report_patched<S: InstructionSet>(
     bytes: &[u8],
     displacement: i64,
 ) -> Result<JumpReport, AllocError>
-    requires { Patchable (meaning set.now) kind bytes.now displacement }
-    ensures { IfOk result (λ j. Told (meaning set.now) kind ((meaning set.now).patched kind bytes.now displacement) j) }
+    requires { Patchable (S.meaning set.now) kind bytes.now displacement }
+    ensures { IfOk result (λ j. Told (S.meaning set.now) kind ((S.meaning set.now).patched kind bytes.now displacement) j) }
 {
     let patched = patched_copy(heap, set, kind, bytes, displacement)?;
     report_on(heap, set, kind, patched)
@@ -140,7 +140,7 @@ pub fn set_jump<S: InstructionSet>(
     bytes: &[u8],
     displacement: i64,
 ) -> Result<JumpReport, ReportError>
-    ensures { Answered (meaning set.now) kind bytes.now displacement result }
+    ensures { Answered (S.meaning set.now) kind bytes.now displacement result }
 {
     check_patch(set, kind, bytes, displacement)?;
     Ok(report_patched(heap, set, kind, bytes, displacement)?)

@@ -35,7 +35,7 @@ fn numbered(res: Result<u32, Refusal>) -> Answer
 // A call that opens and closes no region.
 fn make<S: InstructionSet + Drop>(buffer: &mut MachBuffer<S>, call: Call) -> Answer
     requires { is_plain call ≡ true }
-    ensures tables { (answer_of result, view buffer.new) ≡ step (meaning buffer.old.set) (view buffer.old) (call_of call.entry) }
+    ensures tables { (answer_of result, view buffer.new) ≡ step (S.meaning buffer.old.set) (view buffer.old) (call_of call.entry) }
     ensures set { buffer.new.set ≡ buffer.old.set }
 {
     match call {
@@ -73,7 +73,7 @@ fn open_region<S: InstructionSet + Drop>(
     token: Option<OpenPatchRegion>,
 ) -> (Answer, Option<OpenPatchRegion>)
     requires { Held token (view buffer.old) }
-    ensures tables { (answer_of result.0, view buffer.new) ≡ step (meaning buffer.old.set) (view buffer.old) StartPatchable }
+    ensures tables { (answer_of result.0, view buffer.new) ≡ step (S.meaning buffer.old.set) (view buffer.old) StartPatchable }
     ensures held { Held result.1 (view buffer.new) }
     ensures set { buffer.new.set ≡ buffer.old.set }
 {
@@ -95,7 +95,7 @@ fn close_region<S: InstructionSet + Drop>(
     token: Option<OpenPatchRegion>,
 ) -> (Answer, Option<OpenPatchRegion>)
     requires { Held token (view buffer.old) }
-    ensures tables { (answer_of result.0, view buffer.new) ≡ step (meaning buffer.old.set) (view buffer.old) EndPatchable }
+    ensures tables { (answer_of result.0, view buffer.new) ≡ step (S.meaning buffer.old.set) (view buffer.old) EndPatchable }
     ensures held { Held result.1 (view buffer.new) }
     ensures set { buffer.new.set ≡ buffer.old.set }
 {
@@ -115,7 +115,7 @@ fn make_any<S: InstructionSet + Drop>(
     call: Call,
 ) -> (Answer, Option<OpenPatchRegion>)
     requires { Held token (view buffer.old) }
-    ensures tables { (answer_of result.0, view buffer.new) ≡ step (meaning buffer.old.set) (view buffer.old) (call_of call.entry) }
+    ensures tables { (answer_of result.0, view buffer.new) ≡ step (S.meaning buffer.old.set) (view buffer.old) (call_of call.entry) }
     ensures held { Held result.1 (view buffer.new) }
     ensures set { buffer.new.set ≡ buffer.old.set }
 {
@@ -167,7 +167,7 @@ pub fn replay_calls<S: InstructionSet + Drop>(
     set: S,
     calls: &[Call],
 ) -> Result<Replay<S>, AllocError>
-    ensures { IfOk result (λ p. Replayed (meaning set) (map call_of calls.now) p × (p.buffer.set ≡ set)) }
+    ensures { IfOk result (λ p. Replayed (S.meaning set) (map call_of calls.now) p × (p.buffer.set ≡ set)) }
 {
     let mut buffer = MachBuffer::new(heap, set)?;
     let mut answers = Vec::with_capacity(heap, calls.len())?;

@@ -88,7 +88,7 @@ impl Vector {
 
 // Whether a set patches as the table does, and reads the displacement back.
 fn judge_by<S: InstructionSet>(heap: Global, set: &S, vector: &Vector) -> Result<(), Fault>
-    ensures { Judged (meaning set.now) vector.now result }
+    ensures { Judged (S.meaning set.now) vector.now result }
 {
     let kind = vector.request.kind;
     let displacement = vector.request.displacement;

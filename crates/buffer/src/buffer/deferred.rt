@@ -22,7 +22,7 @@ impl<S: InstructionSet + Drop> MachBuffer<S> {
 
     /// Registers a constant, and answers its number.
     pub fn register_constant(&mut self, size: u32, align: u32) -> Result<u32, Refusal>
-        ensures tables { (result, view self.new) ≡ register_constant (meaning self.old.set) (view self.old) size align }
+        ensures tables { (result, view self.new) ≡ register_constant (S.meaning self.old.set) (view self.old) size align }
         ensures set { self.new.set ≡ self.old.set }
     {
         if self.tables.broken {

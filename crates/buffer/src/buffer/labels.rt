@@ -35,7 +35,7 @@ impl<S: InstructionSet + Drop> MachBuffer<S> {
 
     /// Binds a label at the current offset, and simplifies the branches unless that is to be skipped.
     pub fn bind_label(&mut self, label: u32, skip: bool) -> Result<(), Refusal>
-        ensures tables { (result, view self.new) ≡ bind_label (meaning self.old.set) (view self.old) label skip }
+        ensures tables { (result, view self.new) ≡ bind_label (S.meaning self.old.set) (view self.old) label skip }
         ensures set { self.new.set ≡ self.old.set }
     {
         if self.tables.broken {

@@ -32,7 +32,7 @@ impl<S: InstructionSet + Drop> MachBuffer<S> {
 
     // How far the code can reach after so many bytes and an island, at most 4,294,967,295.
     fn threshold_after(&self, distance: u32) -> u64
-        ensures { result ≡ threshold (meaning self.now.set) (view self.now) distance }
+        ensures { result ≡ threshold (S.meaning self.now.set) (view self.now) distance }
     {
         let veneers = waiting_len(&self.tables) as u64 * self.set.worst_case_veneer_size() as u64;
         let traps = self.tables.deferred.rows.len() as u64 * self.set.trap_opcode().len() as u64;
@@ -47,7 +47,7 @@ impl<S: InstructionSet + Drop> MachBuffer<S> {
 
     /// Whether a fixup may come out of reach if so many bytes follow before the next island.
     pub fn island_needed(&self, distance: u32) -> bool
-        ensures { result ≡ island_needed (meaning self.now.set) (view self.now) distance }
+        ensures { result ≡ island_needed (S.meaning self.now.set) (view self.now) distance }
     {
         let held = held_deadline(&self.tables);
         let least = if self.tables.deadline < held {

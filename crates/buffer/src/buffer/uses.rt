@@ -15,8 +15,8 @@ use tables::capacities::{MAX_BRANCHES, MAX_CODE, MAX_FIXUPS};
 
 // Whether bytes can be a use of a kind: as many as it patches, and reading 0 where it adds.
 fn can_be_use<S: InstructionSet>(set: &S, kind: u32, bytes: &[u8]) -> bool
-    requires { kind < (meaning set.now).kinds }
-    ensures { result ≡ is_use (meaning set.now) kind bytes.now }
+    requires { kind < (S.meaning set.now).kinds }
+    ensures { result ≡ is_use (S.meaning set.now) kind bytes.now }
 {
     bytes.len() == set.patch_size(kind) as usize
         && (!set.is_adding(kind) || set.read(kind, bytes) == 0)
@@ -34,8 +34,8 @@ fn always_jumps(role: Role) -> bool
 
 // Whether bytes are an unconditional branch of a kind.
 fn can_be_jump<S: InstructionSet>(set: &S, kind: u32, bytes: &[u8]) -> bool
-    requires { kind < (meaning set.now).kinds }
-    ensures { result ≡ is_jump (meaning set.now) kind bytes.now }
+    requires { kind < (S.meaning set.now).kinds }
+    ensures { result ≡ is_jump (S.meaning set.now) kind bytes.now }
 {
     bytes.len() == set.patch_size(kind) as usize && always_jumps(set.role(kind, bytes))
 }
@@ -43,8 +43,8 @@ fn can_be_jump<S: InstructionSet>(set: &S, kind: u32, bytes: &[u8]) -> bool
 impl<S: InstructionSet + Drop> MachBuffer<S> {
     // The fixup of a use of a kind at the current offset.
     fn fixup_here(&self, label: u32, kind: u32) -> Fixup
-        requires { kind < (meaning self.now.set).kinds }
-        ensures { result ≡ fixup_at (meaning self.now.set) label (cur_offset (view self.now)) kind }
+        requires { kind < (S.meaning self.now.set).kinds }
+        ensures { result ≡ fixup_at (S.meaning self.now.set) label (cur_offset (view self.now)) kind }
     {
         let offset = cur_offset(&self.tables);
         Fixup {
@@ -57,7 +57,7 @@ impl<S: InstructionSet + Drop> MachBuffer<S> {
 
     // The first checks of a use: whether the buffer takes one, and its label and kind exist.
     fn check_target(&self, label: u32, kind: u32) -> Result<(), Refusal>
-        ensures { result ≡ check_target (meaning self.now.set) (view self.now) label kind }
+        ensures { result ≡ check_target (S.meaning self.now.set) (view self.now) label kind }
     {
         if self.tables.broken {
             return Err(Refusal::BrokenOff);
@@ -81,7 +81,7 @@ impl<S: InstructionSet + Drop> MachBuffer<S> {
         kind: u32,
         bytes: &[u8],
     ) -> Result<u32, Refusal>
-        ensures tables { (result, view self.new) ≡ use_label_at_offset (meaning self.old.set) (view self.old) label kind bytes.now }
+        ensures tables { (result, view self.new) ≡ use_label_at_offset (S.meaning self.old.set) (view self.old) label kind bytes.now }
         ensures set { self.new.set ≡ self.old.set }
     {
         self.check_target(label, kind)?;
@@ -114,10 +114,10 @@ impl<S: InstructionSet + Drop> MachBuffer<S> {
         bytes: &[u8],
         inverted: &[u8],
     ) -> Result<u32, Refusal>
-        requires kind { kind < (meaning self.old.set).kinds }
-        requires long { suits ≡ true → length bytes.now ≡ (meaning self.old.set).size kind }
-        requires inverted_long { suits ≡ true → length inverted.now ≡ (meaning self.old.set).size kind }
-        ensures tables { (result, view self.new) ≡ place_branch (meaning self.old.set) (view self.old) suits conditional label kind bytes.now inverted.now }
+        requires kind { kind < (S.meaning self.old.set).kinds }
+        requires long { suits ≡ true → length bytes.now ≡ (S.meaning self.old.set).size kind }
+        requires inverted_long { suits ≡ true → length inverted.now ≡ (S.meaning self.old.set).size kind }
+        ensures tables { (result, view self.new) ≡ place_branch (S.meaning self.old.set) (view self.old) suits conditional label kind bytes.now inverted.now }
         ensures set { self.new.set ≡ self.old.set }
     {
         if !suits {
@@ -145,7 +145,7 @@ impl<S: InstructionSet + Drop> MachBuffer<S> {
 
     /// Appends an unconditional branch to a label. The answer is its offset.
     pub fn add_uncond_branch(&mut self, label: u32, kind: u32, bytes: &[u8]) -> Result<u32, Refusal>
-        ensures tables { (result, view self.new) ≡ add_uncond_branch (meaning self.old.set) (view self.old) label kind bytes.now }
+        ensures tables { (result, view self.new) ≡ add_uncond_branch (S.meaning self.old.set) (view self.old) label kind bytes.now }
         ensures set { self.new.set ≡ self.old.set }
     {
         self.check_target(label, kind)?;
@@ -161,7 +161,7 @@ impl<S: InstructionSet + Drop> MachBuffer<S> {
         bytes: &[u8],
         inverted: &[u8],
     ) -> Result<u32, Refusal>
-        ensures tables { (result, view self.new) ≡ add_cond_branch (meaning self.old.set) (view self.old) label kind bytes.now inverted.now }
+        ensures tables { (result, view self.new) ≡ add_cond_branch (S.meaning self.old.set) (view self.old) label kind bytes.now inverted.now }
         ensures set { self.new.set ≡ self.old.set }
     {
         self.check_target(label, kind)?;
