@@ -1,17 +1,16 @@
 -- A use in place can be patched by its set, as far as its own bytes and its label go.
-use Rattle.std.proofs.Common.{◌≡◌, ℕ, ◌%◌, Bool, true, false, not, ◌||◌, eqb, List, length, ℤ, pos, negsuc, refl, ⊎_elim, arith, length-drop, length-take}
+use Rattle.std.proofs.Common.{◌≡◌, ℕ, Bool, true, false, not, ◌||◌, List, ℤ, pos, refl, arith, length-drop, length-take}
 use Rattle.std.specs.List.{AllByRecursion as All}
 use Rattle.std.proofs.ByRecursion.{All-weaker}
-use Rattle.std.proofs.lemmas.Bool.{lt-ltb, eq-eqb, and_from, or_left, or_right, not_from_false, cases_Bool}
+use Rattle.std.proofs.lemmas.Bool.{lt-ltb, eq-eqb, and_from}
 use Rattle.isa.specs.Isa.{Isa, bytes_at}
-use Rattle.isa.specs.Laws.{Lawful}
 use Rattle.model.specs.declared.rows.Fixup.{Fixup}
 use Rattle.model.specs.State.{State}
 use Rattle.model.specs.Labels.{is_known, root, offset_of}
 use Rattle.model.specs.Calls.{is_zero, is_use}
-use Rattle.model.specs.Fates.{is_whole, fits}
+use Rattle.model.specs.Fates.{fits}
 use Rattle.model.specs.Uses.{InPlace}
-use Rattle.model.proofs.Orderly.{LabelWhole, Orderly, resolved_whole}
+use Rattle.model.proofs.Orderly.{Orderly, resolved_whole}
 
 -- a test that follows from another, or holds where that fails
 holds_or_not : (a b : Bool) → (a ≡ true → b ≡ true) → (not a || b) ≡ true
