@@ -41,7 +41,7 @@ pub record Told (i : Isa) (k : ℕ) (p : List ℕ) (r : JumpReport) : Type 0 whe
   pub reads : r.reads ≡ i.reads k p
   pub role : r.role ≡ i.role k p
   pub inverted : option_map vec_items r.inverted ≡ other_sense i k p (i.role k p)
-  pub IfSome : r.found ≡ i.find p 0
+  pub found : r.found ≡ i.find p 0
   pub veneer : VeneerTold i k r.veneer
 
 -- The bytes v jump by d as bytes of role r do, but in the other sense.

@@ -4,7 +4,7 @@ use Rattle.jump_report.proofs.jump.made_veneer.Goals as goal
 
 pub returns : goal.returns
 returns g c = record {
-  same_code = with_items_is c.in-ok-code.code c.generate-veneer-place.new.buffer (search rules) ∙ search rules;
+  same_code = with_items_is c.in_ok-code.code c.generate_veneer-place.new.buffer (search rules) ∙ search rules;
   same_place = search rules;
   same_own = search rules;
 }

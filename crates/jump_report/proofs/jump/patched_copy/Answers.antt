@@ -3,4 +3,4 @@ use Rattle.std.proofs.lemmas.List.{with_items_is}
 use Rattle.jump_report.proofs.jump.patched_copy.Goals as goal
 
 pub returns : goal.returns
-returns g c = with_items_is c.in-ok-patched.patched c.patch.new.bytes (search rules) ∙ search rules
+returns g c = with_items_is c.in_ok-patched.patched c.patch.new.bytes (search rules) ∙ search rules

@@ -12,5 +12,5 @@ returns g c =
     let b = c.args.bytes.now in
     let d = c.args.displacement in
     let could : Patchable i k b d = search rules in
-    let told : Told i k (i.patched k b d) c.in-ok-report-patched.field-0 = search rules in
+    let told : Told i k (i.patched k b d) c.in_ok-report_patched.field-0 = search rules in
     jump_set i law k b d could _ told
