@@ -14,4 +14,4 @@ returns c =
     let code = c.args.code.now in
     let bytes = c.args.bytes.now in
     let at = c.args.at in
-    part at (length bytes) code c.copy-from-slice.new.self ∙ ap (λ (ys : List ℕ). take at code ++ (ys ++ drop (at + length bytes) code)) c.copy-from-slice.ensures.after
+    part at (length bytes) code c.copy_from_slice.new.self ∙ ap (λ (ys : List ℕ). take at code ++ (ys ++ drop (at + length bytes) code)) c.copy_from_slice.ensures.after

@@ -8,7 +8,7 @@ pub loop-number-preserved : goal.loop-number-preserved
 loop-number-preserved c =
     let f : ℕ → ℕ = λ (n : ℕ). (get_or c.args.constants.now n no_constant).size + (get_or c.args.constants.now n no_constant).align in
     let e = sum_by_more f c.args.numbers.now c.loop-number.number-index 0 c.loop-number-test.true in
-    let r = c.constant-room-sum.ensures in
+    let r = c.constant_room-sum.ensures in
     (omega (arith, r.small, c.loop-number.invariant.0), omega (arith, r.value, e, c.loop-number.invariant.1))
 
 pub returns : goal.returns

@@ -11,7 +11,7 @@ step : (ls : List Label) (n i l : ℕ) → i < n
 step ls n i l h = let e : n - i ≡ suc (n - (i + 1)) = omega arith in ap (λ k. root_within k ls l) e
 
 pub returns-then-alias : goal.returns-then-alias
-returns-then-alias c = let e = step c.args.labels.now (length c.args.labels.now) c.loop-turn.-turn c.loop-turn.label c.loop-turn-test.true in grind (arith, nat_tests)
+returns-then-alias c = let e = step c.args.labels.now (length c.args.labels.now) c.loop-turn._turn c.loop-turn.label c.loop-turn-test.true in grind (arith, nat_tests)
 
 pub loop-turn-preserved : goal.loop-turn-preserved
-loop-turn-preserved c = let e = step c.args.labels.now (length c.args.labels.now) c.loop-turn.-turn c.loop-turn.label c.loop-turn-test.true in (search rules, grind (arith, nat_tests))
+loop-turn-preserved c = let e = step c.args.labels.now (length c.args.labels.now) c.loop-turn._turn c.loop-turn.label c.loop-turn-test.true in (search rules, grind (arith, nat_tests))
