@@ -15,7 +15,7 @@ loop-pair-init c =
     let size = ap chunks_exact_size made ∙ c.chunks_exact-pair-items.ensures.size in
     let left = ap chunks_exact_rest made ∙ c.chunks_exact-pair-items.ensures.rest ∙ c.as_bytes-digits.ensures.value in
     let even = ap (λ (l : List ℕ). length l % 2) (sym c.as_bytes-digits.ensures.value) ∙ c.if-digits-ne0.false in
-    (tt, omega arith, pairs_none c.args.text.now _ _ _ size left c.new-bytes.ensures.items even)
+    (omega (arith, size), omega arith, pairs_none c.args.text.now _ _ _ size left c.new-bytes.ensures.items even)
 
 pub returns-in_default : goal.returns-in_default
 returns-in_default c =
@@ -27,7 +27,7 @@ pub loop-pair-preserved : goal.loop-pair-preserved
 loop-pair-preserved c =
     let step = c.in-Some.ensures.steps in
     let pushed : vec_items c.push.new.self ≡ vec_items c.loop-pair.bytes ++ (c.in-Some-pair_value_of.byte ∷ []) = search rules in (
-      tt,
+      omega (arith, step.0),
       omega arith,
       pair_more c.loop-pair.invariant.2 c.in-Some.pair.now (chunks_exact_rest c.next.new.self) c.pair_value_of.result step.1.0 step.1.1 c.pair_value_of.ensures
           (vec_items c.push.new.self) c.in-Some-pair_value_of.byte (chunks_exact_size c.next.new.self) step.0 pushed c.in-Some-pair_value_of.is,
