@@ -4,8 +4,8 @@ use Rattle.tables.specs.Standing.{Within, Waiting}
 use Rattle.tables.specs.View.{view}
 use Rattle.tables.proofs.tables.Tables.append_branch.Goals as goal
 
-pub push-branch-requires : goal.push-branch-requires
-push-branch-requires c =
+pub push_branch-requires : goal.push_branch-requires
+push_branch-requires c =
     let s = c.args.self.now in
     let t = c.append_use.new.self in
     let e = c.append_use.ensures in

@@ -10,9 +10,9 @@ returns c =
     let s = c.args.self.now in
     let n = c.args.n in
     let t : take n (replicate {A = ℕ} 64 0) ≡ replicate n 0 = take-replicate n 64 0 c.requires.few in
-    let ok : is_ok c.extend-from-slice.result ≡ true = search rules in
+    let ok : is_ok c.extend_from_slice.result ≡ true = search rules in
     let z : n - 0 ≡ n = omega arith in
-    let e : vec_items c.extend-from-slice.new.self ≡ vec_items s.code.rows ++ replicate n 0 =
-    c.extend-from-slice.ensures.items ∙ cond-true (is_ok c.extend-from-slice.result) _ _ ok
+    let e : vec_items c.extend_from_slice.new.self ≡ vec_items s.code.rows ++ replicate n 0 =
+    c.extend_from_slice.ensures.items ∙ cond-true (is_ok c.extend_from_slice.result) _ _ ok
     ∙ ap (λ (y : List ℕ). vec_items s.code.rows ++ y) (ap (λ (k : ℕ). take k (replicate {A = ℕ} 64 0)) z ∙ t) in
     ap (with_code (view s)) e

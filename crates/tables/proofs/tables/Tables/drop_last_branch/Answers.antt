@@ -7,8 +7,8 @@ use Rattle.tables.proofs.Dropped.{within_dropped, waiting_dropped}
 use Rattle.tables.proofs.Rows.{each_take, chain_take}
 use Rattle.tables.proofs.tables.Tables.drop_last_branch.Goals as goal
 
-pub invariant-of-self-4 : goal.invariant-of-self-4
-invariant-of-self-4 c =
+pub invariant_of-self-4 : goal.invariant_of-self-4
+invariant_of-self-4 c =
     let s = c.args.self.now in
     let bs = vec_items s.branches.rows in
     let n : vec_len s.branches.rows ≡ length bs = s.branches.rows.ok.0 in
@@ -22,7 +22,7 @@ invariant-of-self-4 c =
     let code : (get_or bs (length bs - 1) no_branch).start ≡ vec_len c.truncate.new.self =
     omega (arith, ap (λ (x : Branch). x.start) read, c.truncate.ensures.len, within, begun) in
     let fresh : vec_len s.fresh.rows - 1 ≤ vec_len c.truncate-3.new.self =
-    omega (arith, c.truncate-3.ensures.len, c.saturating-sub-fixups.ensures, c.len.ensures) in (
+    omega (arith, c.truncate-3.ensures.len, c.saturating_sub-fixups.ensures, c.len.ensures) in (
       (search rules, (search rules, tt)),
       (
         subst Begun back (each_take no_branch (λ x. x.start < x.end) bs (length bs - 1) s.begun),

@@ -8,6 +8,6 @@ use Rattle.tables.proofs.tables.Tables.move_labels_at.Goals as goal
 pub returns : goal.returns
 returns c =
     let s = c.args.self.now in
-    let ls = c.move-labels.new.labels in
+    let ls = c.move_labels.new.labels in
     let long : length ls ≡ vec_len s.labels.rows = grind (arith, length-map) in
-    ap (with_labels (view s)) (with_items_is s.labels.rows ls long ∙ (c.move-labels.ensures ∙ ap (map (moved c.args.from c.args.to)) c.deref-mut.ensures.value))
+    ap (with_labels (view s)) (with_items_is s.labels.rows ls long ∙ (c.move_labels.ensures ∙ ap (map (moved c.args.from c.args.to)) c.deref_mut.ensures.value))

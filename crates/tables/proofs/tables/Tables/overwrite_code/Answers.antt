@@ -10,4 +10,4 @@ returns c =
     let s = c.args.self.now in
     let code = c.overwrite.new.code in
     let long : length code ≡ vec_len s.code.rows = search rules in
-    ap (with_code (view s)) (with_items_is s.code.rows code long ∙ (c.overwrite.ensures ∙ ap (λ (xs : List ℕ). overwritten xs c.args.at c.args.bytes.now) c.deref-mut.ensures.value))
+    ap (with_code (view s)) (with_items_is s.code.rows code long ∙ (c.overwrite.ensures ∙ ap (λ (xs : List ℕ). overwritten xs c.args.at c.args.bytes.now) c.deref_mut.ensures.value))

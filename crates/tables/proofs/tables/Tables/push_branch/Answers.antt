@@ -5,12 +5,12 @@ use Rattle.tables.specs.Standing.{Begun, Short, Within, Waiting, InOrder, Fixups
 use Rattle.tables.proofs.Rows.{each_push, chain_push}
 use Rattle.tables.proofs.tables.Tables.push_branch.Goals as goal
 
-pub invariant-of-self : goal.invariant-of-self
-invariant-of-self c =
+pub invariant_of-self : goal.invariant_of-self
+invariant_of-self c =
     let s = c.args.self.now in
     let b = c.args.branch in
     let bs = vec_items s.branches.rows in
-    let e = sym c.push-reserved.ensures.items in
+    let e = sym c.push_reserved.ensures.items in
     let n = vec_len s.code.rows in
     let f = vec_len s.fresh.rows in (
       (search rules, (search rules, tt)),
