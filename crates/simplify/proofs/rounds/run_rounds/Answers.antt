@@ -21,7 +21,7 @@ rounds-init c = (fuel (view c.args.tables.now), omega arith, refl)
 
 pub loop-label-preserved : goal.loop-label-preserved
 loop-label-preserved c =
-    let test : Label → Bool = λ (x : Label). eqb x.offset c.last-branch-of-branch.result.start in
+    let test : Label → Bool = λ (x : Label). eqb x.offset c.last_branch_of-branch.result.start in
     let labels = c.deref-label-items.result.now in
     elim c.if-label-branch.branch [
       | then-label-branch+else-stood-gt-MAX-LABELS-AT-BRANCH w ↦
@@ -42,14 +42,14 @@ pub returns-then-branch-len : goal.returns-then-branch-len
 returns-then-branch-len c =
     let s = view c.rounds.tables in
     let apart : (last_branch s).end ≡ length c.rounds.tables.code.rows.items → ⊥ =
-    λ e. c.if-branch-len.true (ap (λ (b : Branch). b.end) c.last-branch-of-branch.ensures ∙ (e ∙ omega arith)) in
+    λ e. c.if-branch-len.true (ap (λ (b : Branch). b.end) c.last_branch_of-branch.ensures ∙ (e ∙ omega arith)) in
     sym (over_none s (takes_apart s apart) c.rounds.invariant.0) ∙ c.rounds.invariant.2
 
-pub returns-then-stood-gt-MAX-LABELS-AT-BRANCH : goal.returns-then-stood-gt-MAX-LABELS-AT-BRANCH
-returns-then-stood-gt-MAX-LABELS-AT-BRANCH c =
+pub returns-then-stood-gt-MAX_LABELS_AT_BRANCH : goal.returns-then-stood-gt-MAX_LABELS_AT_BRANCH
+returns-then-stood-gt-MAX_LABELS_AT_BRANCH c =
     let s = view c.rounds.tables in
-    let more = stood_some s c.last-branch-of-branch.result c.deref-label-items.result.now c.loop-label.label-index c.loop-label.stood
-    c.last-branch-of-branch.ensures c.deref-label-items.ensures.value c.loop-label-test.true c.loop-label.invariant.1 c.if-label-branch.true in
+    let more = stood_some s c.last_branch_of-branch.result c.deref-label-items.result.now c.loop-label.label-index c.loop-label.stood
+    c.last_branch_of-branch.ensures c.deref-label-items.ensures.value c.loop-label-test.true c.loop-label.invariant.1 c.if-label-branch.true in
     sym (over_none s (takes_crowded s (omega arith)) c.rounds.invariant.0) ∙ c.rounds.invariant.2
 
 -- a round began, and no rule was tried
@@ -57,12 +57,12 @@ pub loop-rule-init : goal.loop-rule-init
 loop-rule-init c =
     let s = view c.rounds.tables in
     let some : 0 < length c.rounds.tables.branches.rows.items = omega arith in
-    let ends : (last_branch s).end ≡ length c.rounds.tables.code.rows.items = ap (λ (b : Branch). b.end) (sym c.last-branch-of-branch.ensures) ∙ omega arith in
-    let few = stood_all s c.last-branch-of-branch.result c.deref-label-items.result.now c.loop-label.label-index c.loop-label.stood
-    c.last-branch-of-branch.ensures c.deref-label-items.ensures.value (omega arith) c.loop-label.invariant.1 in
+    let ends : (last_branch s).end ≡ length c.rounds.tables.code.rows.items = ap (λ (b : Branch). b.end) (sym c.last_branch_of-branch.ensures) ∙ omega arith in
+    let few = stood_all s c.last_branch_of-branch.result c.deref-label-items.result.now c.loop-label.label-index c.loop-label.stood
+    c.last_branch_of-branch.ensures c.deref-label-items.ensures.value (omega arith) c.loop-label.invariant.1 in
     (takes_yes s some ends (omega arith), refl, refl)
 
-falls : (c : goal.In-Applied) → fuel (view c.apply-rule.new.tables) < fuel (view c.rounds.tables)
+falls : (c : goal.In-Applied) → fuel (view c.apply_rule.new.tables) < fuel (view c.rounds.tables)
 falls c =
     let b = c.rounds.tables in
     let s = view b in
@@ -74,7 +74,7 @@ falls c =
     let begun = b.begun last here in
     let within = b.within last here in
     let room = b.code.short in
-    applied_falls (get_or all_rules c.loop-rule.rule-index CutToNext) s (view c.loop-rule.tables) (view c.apply-rule.new.tables) c.loop-rule.invariant.1 c.in-Applied.ensures some
+    applied_falls (get_or all_rules c.loop-rule.rule-index CutToNext) s (view c.loop-rule.tables) (view c.apply_rule.new.tables) c.loop-rule.invariant.1 c.in-Applied.ensures some
     (omega (arith, room, bytes)) (omega (arith, room, begun, within))
 
 pub rounds-smaller : goal.rounds-smaller
@@ -83,7 +83,7 @@ rounds-smaller c = falls c
 pub rounds-preserved : goal.rounds-preserved
 rounds-preserved c =
     let s = view c.rounds.tables in
-    let t = view c.apply-rule.new.tables in
+    let t = view c.apply_rule.new.tables in
     let tried = step_applied s (view c.loop-rule.tables) t c.loop-rule.rule-index c.loop-rule-test.true c.loop-rule.invariant.1 c.loop-rule.invariant.2 c.in-Applied.ensures in
     let p = again s t c.loop-rule.invariant.0 tried (falls c) c.rounds.invariant.0 c.rounds.invariant.1 in
     (p.0, p.1, p.2 ∙ c.rounds.invariant.2)
@@ -91,7 +91,7 @@ rounds-preserved c =
 pub loop-rule-preserved : goal.loop-rule-preserved
 loop-rule-preserved c =
     let s = view c.rounds.tables in
-    let t = view c.apply-rule.new.tables in
+    let t = view c.apply_rule.new.tables in
     let rule = get_or all_rules c.loop-rule.rule-index CutToNext in
     let same = passed_same rule s (view c.loop-rule.tables) t c.loop-rule.invariant.1 c.in-Passed.ensures in
     let tried = step_passed s (view c.loop-rule.tables) t c.loop-rule.rule-index c.loop-rule-test.true c.loop-rule.invariant.1 c.loop-rule.invariant.2 c.in-Passed.ensures in
@@ -100,7 +100,7 @@ loop-rule-preserved c =
 pub returns-in-Stopped : goal.returns-in-Stopped
 returns-in-Stopped c =
     let s = view c.rounds.tables in
-    let t = view c.apply-rule.new.tables in
+    let t = view c.apply_rule.new.tables in
     let rule = get_or all_rules c.loop-rule.rule-index CutToNext in
     let same = stopped_same rule s (view c.loop-rule.tables) t c.loop-rule.invariant.1 c.in-Stopped.ensures in
     let tried = step_stopped s (view c.loop-rule.tables) t c.loop-rule.rule-index c.loop-rule-test.true c.loop-rule.invariant.1 c.loop-rule.invariant.2 c.in-Stopped.ensures in
