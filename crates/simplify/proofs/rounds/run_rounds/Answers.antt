@@ -11,7 +11,7 @@ use Rattle.tables.specs.View.{view}
 use Rattle.simplify.proofs.RoundSteps.{takes_yes, takes_none, takes_apart, takes_crowded, over_none, over_tried, again, step_applied, step_stopped, step_passed, stood_all, stood_some, passed_same, stopped_same, applied_falls}
 use Rattle.simplify.proofs.rounds.run_rounds.Given as given
 use Rattle.simplify.proofs.rounds.run_rounds.Goals as goal
-use Rattle.simplify.proofs.rounds.run_rounds.Goals.{then-label-branch+else-stood-gt-MAX-LABELS-AT-BRANCH, else-label-branch}
+use Rattle.simplify.proofs.rounds.run_rounds.Goals.{then-label-branch+else-stood-gt-MAX_LABELS_AT_BRANCH, else-label-branch}
 
 abbrev no_label : Label
 no_label = record { offset = 0; alias = 0; reserved = false }
@@ -24,9 +24,9 @@ loop-label-preserved c =
     let test : Label → Bool = λ (x : Label). eqb x.offset c.last_branch_of-branch.result.start in
     let labels = c.deref-label-items.result.now in
     elim c.if-label-branch.branch [
-      | then-label-branch+else-stood-gt-MAX-LABELS-AT-BRANCH w ↦
+      | then-label-branch+else-stood-gt-MAX_LABELS_AT_BRANCH w ↦
           (let e = count_by_more_yes test labels c.loop-label.label-index no_label c.loop-label-test.true (eq-eqb _ _ w.if-label-branch.true) in
-          (omega (arith, w.stood-is, w.if-stood-gt-MAX-LABELS-AT-BRANCH.false), omega (arith, w.stood-is, e)))
+          (omega (arith, w.stood-is, w.if-stood-gt-MAX_LABELS_AT_BRANCH.false), omega (arith, w.stood-is, e)))
       | else-label-branch w ↦
           (let e = count_by_more_no test labels c.loop-label.label-index no_label c.loop-label-test.true (ne_eqb _ _ w.if-label-branch.false) in
           (omega (arith, w.stood-is), omega (arith, w.stood-is, e)))
