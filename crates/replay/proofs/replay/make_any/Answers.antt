@@ -14,8 +14,8 @@ held_same : (t : Option OpenPatchRegion) (s r : State) → regions_of r ≡ regi
 held_same None s r e h = ap (λ (p : Option ℕ × List Region). p.0) e ∙ h
 held_same (Some x) s r e h = (ap (λ (p : Option ℕ × List Region). is_some p.0) e ∙ h.0, h.1 ∙ sym (ap (λ (p : Option ℕ × List Region). length p.1) e))
 
-pub returns-in-default : goal.returns-in-default
-returns-in-default g c =
+pub returns-in_default : goal.returns-in_default
+returns-in_default g c =
     let i = g.S.InstructionSet.meaning c.args.buffer.now.set in
     let s = view c.args.buffer.now in
     let plain : is_plain c.args.call ≡ true = search rules in
