@@ -23,9 +23,9 @@ pub loop-line-preserved : goal.loop-line-preserved
 loop-line-preserved c =
     let lent = c.deref-line-items.ensures.value in
     let k = c.loop-line.line-index in
-    let added : vec_items c.push.new.self ≡ vec_items c.loop-line.calls ++ c.as-call.result ∷ [] = search rules in
-    more (vec_items c.loop-line.calls) (vec_items c.push.new.self) c.deref-line-items.result.now k c.as-call.result c.line-item.result
-    c.loop-line-test.true c.line-item.is c.as-call.ensures added (c.loop-line.invariant ∙ ap (λ (ls : List ScriptLine). map line_meant (take k ls)) (sym lent))
+    let added : vec_items c.push.new.self ≡ vec_items c.loop-line.calls ++ c.as_call.result ∷ [] = search rules in
+    more (vec_items c.loop-line.calls) (vec_items c.push.new.self) c.deref-line-items.result.now k c.as_call.result c.line-item.result
+    c.loop-line-test.true c.line-item.is c.as_call.ensures added (c.loop-line.invariant ∙ ap (λ (ls : List ScriptLine). map line_meant (take k ls)) (sym lent))
     ∙ ap (λ (ls : List ScriptLine). map line_meant (take (k + 1) ls)) lent
 
 pub returns : goal.returns
