@@ -12,7 +12,7 @@ fn data_keeps_its_order(rt: HostRuntime) -> Result<(), Fail> {
     assert_eq!(rt; buffer.put_data(7, &[4, 255])?, 3);
     buffer.align_to(8)?;
     assert_eq!(rt; buffer.put_data(0, &[6])?, 8);
-    assert_eq!(rt; buffer.code(), &[1, 2, 3, 4, 255, 0, 0, 0, 6]);
+    assert_eq!(rt; buffer.code(), [1, 2, 3, 4, 255, 0, 0, 0, 6].as_slice());
     Ok(())
 }
 
