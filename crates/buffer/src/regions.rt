@@ -1,2 +1,2 @@
 // Regions of the code that are filled after finishing.
-pub use calls::tokens::{OpenPatchRegion, PatchRegion};
+pub use table_calls::tokens::{OpenPatchRegion, PatchRegion};

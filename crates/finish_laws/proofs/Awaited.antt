@@ -1,7 +1,7 @@
 -- After every list of calls, a reserved label that stands nowhere and is no alias is pending.
 use Rattle.std.proofs.Common.{◌≡◌, ℕ, ◌-◌, ◌<◌, ◌≤◌, Bool, false, ◌||◌, ◌⊎◌, List, length, get_or, refl, inl, inr, arith, length-append, length-set}
 use lib.ListN.{length-map}
-use Rattle.std.specs.List.{AllByRecursion as All}
+use Rattle.std.specs.List.{AllByRecursion}
 use Rattle.std.proofs.lemmas.Bool.{cases_lt, or_parts}
 use Rattle.std.proofs.lemmas.List.{get_or_past}
 use Rattle.std.proofs.ByRecursion.{All-get_or, All-push, All-set, All-take}
@@ -35,7 +35,7 @@ pub record LowBranch (b : Branch) : Type 0 where
 -- tables of labels, branches, deferred traps, constants and requests: every label that an island has yet to bind is pending
 pub record Tables (ls : List Label) (bs : List Branch) (ds : List DeferredTrap) (cs : List Constant) (ns : List ℕ) : Type 0 where
   pub few : length ls ≤ max_labels
-  pub branches : All LowBranch bs
+  pub branches : AllByRecursion LowBranch bs
   pub all_pending : AllPending ls ds cs ns
 
 abbrev pub Awaited : State → Type 0
@@ -63,7 +63,7 @@ redirect_awaited s k t =
       all_pending = λ l a u. k.all_pending l a (aliased_unplaced (last_branch s).start (last_branch s).target (known_below _ max_code b.start (omega arith)) (known_below _ max_labels (omega (arith, b.target)) (omega arith)) s.labels l u);
     }
 
-turned_low : (bs : List Branch) (n l : ℕ) → l < max_labels → All LowBranch bs → LowBranch (turned (get_or bs n no_branch) l)
+turned_low : (bs : List Branch) (n l : ℕ) → l < max_labels → AllByRecursion LowBranch bs → LowBranch (turned (get_or bs n no_branch) l)
 turned_low bs n l h a = by (cases_lt n (length bs))
   where
     by : (n < length bs) ⊎ (length bs ≤ n) → LowBranch (turned (get_or bs n no_branch) l)

@@ -1,6 +1,6 @@
 -- Where every label that is waited for is placed, each island shortens all chains of veneers, until nothing waits.
 use Rattle.std.proofs.Common.{◌≡◌, ℕ, zero, suc, ◌<◌, ◌≤◌, max, Bool, true, false, ◌⊎◌, List, [], ◌∷◌, ◌++◌, drop, sym, refl, ap, ◌∙◌, subst, inl, inr, append_assoc, append-nil, arith}
-use Rattle.std.specs.List.{AllByRecursion as All}
+use Rattle.std.specs.List.{AllByRecursion}
 use Rattle.std.proofs.ByRecursion.{All-push}
 use Rattle.std.proofs.lemmas.Bool.{both_ways, cases_lt, cond_both, or_left, or_right}
 use Rattle.isa.specs.Isa.{Isa}
@@ -27,8 +27,8 @@ pub record Low (i : Isa) (ls : List Label) (n : ℕ) (f : Fixup) : Type 0 where
 -- every use that waits is so, and nothing is pending
 pub record Settled (i : Isa) (ls : List Label) (n : ℕ) (s : State) : Type 0 where
   pub labels : s.labels ≡ ls
-  pub fresh : All (Low i ls n) s.fresh
-  pub held : All (Low i ls n) s.held
+  pub fresh : AllByRecursion (Low i ls n) s.fresh
+  pub held : AllByRecursion (Low i ls n) s.held
   pub no_traps : s.deferred ≡ []
   pub no_constants : s.requested ≡ []
 
@@ -37,18 +37,18 @@ record Midway (i : Isa) (ls : List Label) (n : ℕ) (fs : List Fixup) (s : State
   labels : s.labels ≡ ls
   made : List Fixup
   split : s.fresh ≡ fs ++ made
-  low : All (Low i ls n) made
-  todo : All (Low i ls (suc n)) fs
-  held : All (Low i ls (suc n)) s.held
+  low : AllByRecursion (Low i ls n) made
+  todo : AllByRecursion (Low i ls (suc n)) fs
+  held : AllByRecursion (Low i ls (suc n)) s.held
   no_traps : s.deferred ≡ []
   no_constants : s.requested ≡ []
 
 -- among the held fixups
 record Later (i : Isa) (ls : List Label) (n : ℕ) (fs : List Fixup) (s : State) : Type 0 where
   labels : s.labels ≡ ls
-  low : All (Low i ls n) s.fresh
+  low : AllByRecursion (Low i ls n) s.fresh
   split : s.held ≡ fs
-  todo : All (Low i ls (suc n)) fs
+  todo : AllByRecursion (Low i ls (suc n)) fs
   no_traps : s.deferred ≡ []
   no_constants : s.requested ≡ []
 
@@ -117,10 +117,10 @@ module _ (i : Isa) (lawful : Lawful i) (ls : List Label) (n : ℕ) where
   no_constants_left P (m ∷ ns) s e h = let z : ◌≡◌ {A = ℕ} 0 1 = cc in absurd (omega arith)
 
   settled : (s : State) → Later i ls n [] s → Settled i ls n s
-  settled s m = record { labels = m.labels; fresh = m.low; held = subst (λ (v : List Fixup). All (Low i ls n) v) (sym m.split) tt; no_traps = m.no_traps; no_constants = m.no_constants }
+  settled s m = record { labels = m.labels; fresh = m.low; held = subst (λ (v : List Fixup). AllByRecursion (Low i ls n) v) (sym m.split) tt; no_traps = m.no_traps; no_constants = m.no_constants }
 
   later : (s : State) → Midway i ls n [] s → Later i ls n s.held (reset_deadline i s)
-  later s m = record { labels = m.labels; low = subst (λ (v : List Fixup). All (Low i ls n) v) (sym m.split) m.low; split = refl; todo = m.held; no_traps = m.no_traps; no_constants = m.no_constants }
+  later s m = record { labels = m.labels; low = subst (λ (v : List Fixup). AllByRecursion (Low i ls n) v) (sym m.split) m.low; split = refl; todo = m.held; no_traps = m.no_traps; no_constants = m.no_constants }
 
   start : (s : State) → Settled i ls (suc n) s → Midway i ls n s.fresh (with_branches s [])
   start s m = record { labels = m.labels; made = []; split = sym (append-nil s.fresh); low = tt; todo = m.fresh; held = m.held; no_traps = m.no_traps; no_constants = m.no_constants }
@@ -134,7 +134,7 @@ module _ (i : Isa) (lawful : Lawful i) (ls : List Label) (n : ℕ) where
       then_brings (Later i ls n []) (Settled i ls n) _ _ (no_traps_left (Later i ls n []) b.deferred b hb.no_traps hb) (λ c hc.
       then_brings (Later i ls n []) (Settled i ls n) _ _ (no_constants_left (Later i ls n []) c.requested c hc.no_constants hc) (λ d hd. settled d hd))))
 
-none_low : (i : Isa) (ls : List Label) (fs : List Fixup) → All (Low i ls 0) fs → fs ≡ []
+none_low : (i : Isa) (ls : List Label) (fs : List Fixup) → AllByRecursion (Low i ls 0) fs → fs ≡ []
 none_low i ls [] h = refl
 none_low i ls (f ∷ fs) h = absurd (omega (arith, h.0.short))
 

@@ -1,6 +1,6 @@
 -- Finishing ends: the first island places every label that is waited for, and then chains fall.
 use Rattle.std.proofs.Common.{◌≡◌, ℕ, suc, ◌+◌, ◌<◌, Bool, true, false, not, eqb, ◌≢◌, ◌⊎◌, List, [], length, None, sym, refl, ◌∙◌, subst, inl, inr, arith}
-use Rattle.std.specs.List.{AllByRecursion as All}
+use Rattle.std.specs.List.{AllByRecursion}
 use Rattle.std.proofs.ByRecursion.{All-weaker}
 use Rattle.std.proofs.lemmas.Bool.{and_cases, cond_both, eqb-false, ne_eqb, not-false, not_from_false}
 use Rattle.isa.specs.Isa.{Isa}
@@ -60,7 +60,7 @@ record Ready (i : Isa) (ls : List Label) (f : Fixup) : Type 0 where
 own_ready : (i : Isa) → Lawful i → (ls : List Label) (f : Fixup) (at : ℕ) → i.supports f.kind ≡ true → Ready i ls f → Ready i ls (own_fixup i f at)
 own_ready i lawful ls f at e r = record { kind = (lawful.veneer_bounds f.kind r.kind e).own_kind; exists = r.exists; not_lost = r.not_lost }
 
-all_ready : (i : Isa) (ls : List Label) (code : List ℕ) (fs : List Fixup) → All (InPlace i code) fs → All (λ (f : Fixup). f.label < length ls) fs → All (λ (f : Fixup). is_lost ls f.label ≡ false) fs → All (Ready i ls) fs
+all_ready : (i : Isa) (ls : List Label) (code : List ℕ) (fs : List Fixup) → AllByRecursion (InPlace i code) fs → AllByRecursion (λ (f : Fixup). f.label < length ls) fs → AllByRecursion (λ (f : Fixup). is_lost ls f.label ≡ false) fs → AllByRecursion (Ready i ls) fs
 all_ready i ls code fs a b c = all_both (InPlace i code) (λ (f : Fixup). (f.label < length ls) × (is_lost ls f.label ≡ false)) (Ready i ls) (λ f p q. record { kind = p.kind; exists = q.0; not_lost = q.1 }) fs a (all_both _ _ _ (λ f x y. (x, y)) fs b c)
 
 -- what holds of the tables that finishing is called on

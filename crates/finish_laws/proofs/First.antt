@@ -1,6 +1,6 @@
 -- The first island: traps and constants are written, labels keep their aliases, and what waits is for the same labels.
 use Rattle.std.proofs.Common.{◌≡◌, ℕ, zero, suc, ◌+◌, Bool, true, ltb, List, [], ◌∷◌, length, drop, refl, ap, ◌∙◌, length-set}
-use Rattle.std.specs.List.{AllByRecursion as All}
+use Rattle.std.specs.List.{AllByRecursion}
 use Rattle.std.proofs.ByRecursion.{All-drop, All-push}
 use Rattle.isa.specs.Isa.{Isa}
 use Rattle.model.specs.declared.rows.Label.{Label}
@@ -45,8 +45,8 @@ same-root ls us a l = rw a.long (same-root_within ls us a (length ls) l)
 -- Something holds of every use that waits, and outlasts a veneer.
 module _ (i : Isa) (Q : Fixup → Type 0) (owns : (f : Fixup) (at : ℕ) → i.supports f.kind ≡ true → Q f → Q (own_fixup i f at)) (ls : List Label) where
   record Midst (s : State) : Type 0 where
-    fresh : All Q s.fresh
-    held : All Q s.held
+    fresh : AllByRecursion Q s.fresh
+    held : AllByRecursion Q s.held
     labels : Alike ls s.labels
 
   -- and these are the deferred traps
@@ -65,23 +65,23 @@ module _ (i : Isa) (Q : Fixup → Type 0) (owns : (f : Fixup) (at : ℕ) → i.s
   handled_midst (ToVeneer at) s r f e q m = record { fresh = All-push Q r.fresh (own_fixup i f at) m.fresh (owns f at e q); held = m.held; labels = m.labels }
   handled_midst (Fails x) s r f e q m = tt
 
-  all_insert : (f : Fixup) (gs : List Fixup) → Q f → All Q gs → All Q (insert_held f gs)
+  all_insert : (f : Fixup) (gs : List Fixup) → Q f → AllByRecursion Q gs → AllByRecursion Q (insert_held f gs)
   all_insert f [] q a = (q, tt)
-  all_insert f (g ∷ gs) q a = either (All Q) (comes_before f g) _ _ (q, a) (a.0, all_insert f gs q a.1)
+  all_insert f (g ∷ gs) q a = either (AllByRecursion Q) (comes_before f g) _ _ (q, a) (a.0, all_insert f gs q a.1)
 
   module _ (force : Bool) (t : ℕ) where
     fresh_step_midst : (s : State) (f : Fixup) → Q f → Midst s → Brings Midst (fresh_step i force t s f)
     fresh_step_midst s f q m =
-        let less : All Q (drop 1 s.fresh) = All-drop Q 1 s.fresh m.fresh in
+        let less : AllByRecursion Q (drop 1 s.fresh) = All-drop Q 1 s.fresh m.fresh in
         either (Brings Midst) (is_ripe i t s f) _ _
         (handled_midst (fate i force s f) s (less_fresh s) f (fate_supported i force s f) q (record { fresh = less; held = m.held; labels = m.labels }))
         (record { fresh = less; held = all_insert f s.held q m.held; labels = m.labels })
 
-    fresh_pass_midst : (fs : List Fixup) (s : State) → All Q fs → Midst s → Brings Midst (fresh_pass i force t fs s)
+    fresh_pass_midst : (fs : List Fixup) (s : State) → AllByRecursion Q fs → Midst s → Brings Midst (fresh_pass i force t fs s)
     fresh_pass_midst [] s a m = m
     fresh_pass_midst (f ∷ fs) s a m = then_brings Midst Midst (fresh_step i force t s f) (λ r. fresh_pass i force t fs r) (fresh_step_midst s f a.0 m) (λ r h. fresh_pass_midst fs r a.1 h)
 
-    held_pass_midst : (fs : List Fixup) (s : State) → All Q fs → Midst s → Brings Midst (held_pass i force t fs s)
+    held_pass_midst : (fs : List Fixup) (s : State) → AllByRecursion Q fs → Midst s → Brings Midst (held_pass i force t fs s)
     held_pass_midst [] s a m = m
     held_pass_midst (f ∷ fs) s a m =
         either (Brings Midst) (is_ripe i t s f) _ _
@@ -113,13 +113,13 @@ module _ (i : Isa) (Q : Fixup → Type 0) (owns : (f : Fixup) (at : ℕ) → i.s
 
 -- after a complete island nothing is pending
 pub record Written (Q : Fixup → Type 0) (ls : List Label) (s : State) : Type 0 where
-  pub fresh : All Q s.fresh
-  pub held : All Q s.held
+  pub fresh : AllByRecursion Q s.fresh
+  pub held : AllByRecursion Q s.held
   pub labels : Alike ls s.labels
   pub no_traps : s.deferred ≡ []
   pub no_constants : s.requested ≡ []
 
-pub island_writes : (i : Isa) (Q : Fixup → Type 0) → ((f : Fixup) (at : ℕ) → i.supports f.kind ≡ true → Q f → Q (own_fixup i f at)) → (force : Bool) (s : State) → All Q s.fresh → All Q s.held → Brings (Written Q s.labels) (island i force 0 s)
+pub island_writes : (i : Isa) (Q : Fixup → Type 0) → ((f : Fixup) (at : ℕ) → i.supports f.kind ≡ true → Q f → Q (own_fixup i f at)) → (force : Bool) (s : State) → AllByRecursion Q s.fresh → AllByRecursion Q s.held → Brings (Written Q s.labels) (island i force 0 s)
 island_writes i Q owns force s fresh held =
     let t = threshold i s 0 in
     let ls = s.labels in

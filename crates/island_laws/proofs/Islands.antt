@@ -1,6 +1,6 @@
 -- What has changed in the tables after every island.
 use Rattle.std.proofs.Common.{◌≡◌, ℕ, ◌-◌, Bool, ◌⊎◌, List, [], ◌∷◌, ◌++◌, length, sym, refl, subst, inl, inr, ⊎_elim, append_assoc, append-nil, arith}
-use Rattle.std.specs.List.{ContainsAt as Has}
+use Rattle.std.specs.List.{ContainsAt}
 use Rattle.std.proofs.ByRecursion.{all-has, all_has_itself, All-weaker}
 use Rattle.isa.specs.Isa.{Isa}
 use Rattle.isa.specs.Laws.{Lawful}
@@ -24,7 +24,7 @@ record Patching (i : Isa) (start s : State) : Type 0 where
   orderly : Orderly i s
   since : Since i start s
   labels : s.labels ≡ start.labels
-  held_old : (g : Fixup) → Has s.held g → Waits start g
+  held_old : (g : Fixup) → ContainsAt s.held g → Waits start g
 
 -- while traps and constants are written
 pub record Writing (i : Isa) (start s : State) : Type 0 where
@@ -53,13 +53,13 @@ module _ (i : Isa) (y : Lawful i) (start : State) (z : Start i start) where
   since_padded s r more at e fresh held k = since_more s r (zeros (at - length s.code) ++ more) (rw e (append_assoc s.code (zeros (at - length s.code)) more)) fresh held k
 
   fresh_waits : (s : State) (f : Fixup) (fs : List Fixup) → s.fresh ≡ f ∷ fs → Waits s f
-  fresh_waits s f fs h = inl (subst (λ (xs : List Fixup). Has xs f) (sym h) (has_first f fs))
+  fresh_waits s f fs h = inl (subst (λ (xs : List Fixup). ContainsAt xs f) (sym h) (has_first f fs))
 
-  held_waits : (s : State) (f : Fixup) (fs : List Fixup) → s.held ≡ f ∷ fs → Has s.held f
-  held_waits s f fs h = subst (λ (xs : List Fixup). Has xs f) (sym h) (has_first f fs)
+  held_waits : (s : State) (f : Fixup) (fs : List Fixup) → s.held ≡ f ∷ fs → ContainsAt s.held f
+  held_waits s f fs h = subst (λ (xs : List Fixup). ContainsAt xs f) (sym h) (has_first f fs)
 
-  held_later : (s : State) (f : Fixup) (fs : List Fixup) → s.held ≡ f ∷ fs → (g : Fixup) → Has fs g → Has s.held g
-  held_later s f fs h g m = subst (λ (xs : List Fixup). Has xs g) (sym h) (has_later f fs g m)
+  held_later : (s : State) (f : Fixup) (fs : List Fixup) → s.held ≡ f ∷ fs → (g : Fixup) → ContainsAt fs g → ContainsAt s.held g
+  held_later s f fs h g m = subst (λ (xs : List Fixup). ContainsAt xs g) (sym h) (has_later f fs g m)
 
   fresh_patched : (s : State) (f : Fixup) (fs : List Fixup) (place : ℕ) → Patching i start s → s.branches ≡ [] → s.fresh ≡ f ∷ fs → Waits start f → Near i s f place → Patching i start (with_code (with_fresh s fs) (patch_fixup i s f place))
   fresh_patched s f fs place k e h old n =
@@ -108,19 +108,19 @@ module _ (i : Isa) (y : Lawful i) (start : State) (z : Start i start) where
     orderly = (calls_keep_orderly i y).put_aside s f fs k.orderly e h;
     since = since_step z k.since (grown i start s (with_held (with_fresh s fs) (insert_held f s.held)) [] (sym (append-nil s.code)) on back);
     labels = k.labels;
-    held_old = λ g m. ⊎_elim (λ (t : g ≡ f). rw t old) (λ (l : Has s.held g). k.held_old g l) (has_insert_cases f s.held g m);
+    held_old = λ g m. ⊎_elim (λ (t : g ≡ f). rw t old) (λ (l : ContainsAt s.held g). k.held_old g l) (has_insert_cases f s.held g m);
   }
     where
-      on : (g : Fixup) → Waits s g → Has fs g ⊎ Has (insert_held f s.held) g
-      on g (inl m) = ⊎_elim (λ (t : g ≡ f). inr (rw t (has_inserted f s.held))) (λ (l : Has fs g). inl l) (has_cases f fs g (subst (λ (xs : List Fixup). Has xs g) h m))
+      on : (g : Fixup) → Waits s g → ContainsAt fs g ⊎ ContainsAt (insert_held f s.held) g
+      on g (inl m) = ⊎_elim (λ (t : g ≡ f). inr (rw t (has_inserted f s.held))) (λ (l : ContainsAt fs g). inl l) (has_cases f fs g (subst (λ (xs : List Fixup). ContainsAt xs g) h m))
       on g (inr m) = inr (has_insert f s.held g m)
 
-      back : (g : Fixup) → Has fs g ⊎ Has (insert_held f s.held) g → Waits s g
-      back g (inl m) = inl (subst (λ (xs : List Fixup). Has xs g) (sym h) (has_later f fs g m))
-      back g (inr m) = ⊎_elim (λ (t : g ≡ f). rw t (fresh_waits s f fs h)) (λ (l : Has s.held g). inr l) (has_insert_cases f s.held g m)
+      back : (g : Fixup) → ContainsAt fs g ⊎ ContainsAt (insert_held f s.held) g → Waits s g
+      back g (inl m) = inl (subst (λ (xs : List Fixup). ContainsAt xs g) (sym h) (has_later f fs g m))
+      back g (inr m) = ⊎_elim (λ (t : g ≡ f). rw t (fresh_waits s f fs h)) (λ (l : ContainsAt s.held g). inr l) (has_insert_cases f s.held g m)
 
   patching_beside : (s r : State) → Orderly i r → r.code ≡ s.code → r.fresh ≡ s.fresh → r.held ≡ s.held → r.labels ≡ s.labels → Patching i start s → Patching i start r
-  patching_beside s r o e fresh held labels k = record { orderly = o; since = since_beside s r e fresh held k.since; labels = rw labels k.labels; held_old = λ g m. k.held_old g (subst (λ (xs : List Fixup). Has xs g) held m) }
+  patching_beside s r o e fresh held labels k = record { orderly = o; since = since_beside s r e fresh held k.since; labels = rw labels k.labels; held_old = λ g m. k.held_old g (subst (λ (xs : List Fixup). ContainsAt xs g) held m) }
 
   islands_keep : KeptByIslands i (Waits start) (Patching i start) (Writing i start)
   islands_keep = record {
@@ -144,5 +144,5 @@ module _ (i : Isa) (y : Lawful i) (start : State) (z : Start i start) where
 
 pub island_since : (i : Isa) → Lawful i → (s : State) → Orderly i s → (force : Bool) (distance : ℕ) → Writing i s (island i force distance s).state
 island_since i y s o force distance =
-    island_keeps (islands_keep i y s (start_of i y s o)) force distance s (All-weaker (Has s.fresh) (Waits s) (λ f m. inl m) s.fresh (all_has_itself s.fresh))
+    island_keeps (islands_keep i y s (start_of i y s o)) force distance s (All-weaker (ContainsAt s.fresh) (Waits s) (λ f m. inl m) s.fresh (all_has_itself s.fresh))
     (record { orderly = o; since = since_here i s; labels = refl; held_old = λ g m. inr m })

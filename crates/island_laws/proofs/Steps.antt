@@ -1,7 +1,7 @@
 -- The steps of an island: one use is patched, to its label or to a new veneer, or code comes behind the code.
 use Rattle.std.proofs.Common.{◌≡◌, ℕ, ◌+◌, ◌-◌, ◌≤◌, ◌⊎◌, List, [], ◌∷◌, ◌++◌, length, take, drop, sym, refl, ap, ◌∙◌, subst, inl, inr, ⊎_elim, append_assoc, append-nil, arith, length-append}
 use lib.IntN.{sub_ℕ}
-use Rattle.std.specs.List.{ContainsAt as Has, AllByRecursion as All}
+use Rattle.std.specs.List.{ContainsAt, AllByRecursion}
 use Rattle.std.proofs.lemmas.List.{take_all, drop_at}
 use Rattle.std.proofs.ByRecursion.{all-has, has_append_left, has_push, has_push_cases}
 use Rattle.isa.specs.Isa.{Isa, Patchable}
@@ -23,30 +23,30 @@ use Rattle.island_laws.proofs.Patches.{padded_long, patch_long, patch_same, patc
 
 -- the uses that wait, without one of them
 pub record Removed (i : Isa) (s : State) (f : Fixup) (fresh held : List Fixup) : Type 0 where
-  pub left : (g : Fixup) → Waits s g → (g ≡ f) ⊎ (Has fresh g ⊎ Has held g)
-  pub stay : (g : Fixup) → Has fresh g ⊎ Has held g → Waits s g × Apart i f g
+  pub left : (g : Fixup) → Waits s g → (g ≡ f) ⊎ (ContainsAt fresh g ⊎ ContainsAt held g)
+  pub stay : (g : Fixup) → ContainsAt fresh g ⊎ ContainsAt held g → Waits s g × Apart i f g
 
 pub fresh_removed : (i : Isa) (s : State) (f : Fixup) (fs : List Fixup) → s.fresh ≡ f ∷ fs → Uses i s.code s.held (f ∷ fs) → Removed i s f fs s.held
 fresh_removed i s f fs e u = record { left = left; stay = stay }
   where
-    left : (g : Fixup) → Waits s g → (g ≡ f) ⊎ (Has fs g ⊎ Has s.held g)
-    left g (inl m) = ⊎_elim (λ (h : g ≡ f). inl h) (λ (h : Has fs g). inr (inl h)) (has_cases f fs g (subst (λ (xs : List Fixup). Has xs g) e m))
+    left : (g : Fixup) → Waits s g → (g ≡ f) ⊎ (ContainsAt fs g ⊎ ContainsAt s.held g)
+    left g (inl m) = ⊎_elim (λ (h : g ≡ f). inl h) (λ (h : ContainsAt fs g). inr (inl h)) (has_cases f fs g (subst (λ (xs : List Fixup). ContainsAt xs g) e m))
     left g (inr m) = inr (inr m)
 
-    stay : (g : Fixup) → Has fs g ⊎ Has s.held g → Waits s g × Apart i f g
-    stay g (inl m) = (inl (subst (λ (xs : List Fixup). Has xs g) (sym e) (has_later f fs g m)), inl (all-has (EndsBefore i f) fs g u.fresh_in_order.0 m))
-    stay g (inr m) = (inr m, inr (all-has (λ (h : Fixup). All (EndsBefore i h) (f ∷ fs)) s.held g u.held_first m).0)
+    stay : (g : Fixup) → ContainsAt fs g ⊎ ContainsAt s.held g → Waits s g × Apart i f g
+    stay g (inl m) = (inl (subst (λ (xs : List Fixup). ContainsAt xs g) (sym e) (has_later f fs g m)), inl (all-has (EndsBefore i f) fs g u.fresh_in_order.0 m))
+    stay g (inr m) = (inr m, inr (all-has (λ (h : Fixup). AllByRecursion (EndsBefore i h) (f ∷ fs)) s.held g u.held_first m).0)
 
 pub held_removed : (i : Isa) (s : State) (f : Fixup) (fs : List Fixup) → s.held ≡ f ∷ fs → Uses i s.code (f ∷ fs) s.fresh → Removed i s f s.fresh fs
 held_removed i s f fs e u = record { left = left; stay = stay }
   where
-    left : (g : Fixup) → Waits s g → (g ≡ f) ⊎ (Has s.fresh g ⊎ Has fs g)
+    left : (g : Fixup) → Waits s g → (g ≡ f) ⊎ (ContainsAt s.fresh g ⊎ ContainsAt fs g)
     left g (inl m) = inr (inl m)
-    left g (inr m) = ⊎_elim (λ (h : g ≡ f). inl h) (λ (h : Has fs g). inr (inr h)) (has_cases f fs g (subst (λ (xs : List Fixup). Has xs g) e m))
+    left g (inr m) = ⊎_elim (λ (h : g ≡ f). inl h) (λ (h : ContainsAt fs g). inr (inr h)) (has_cases f fs g (subst (λ (xs : List Fixup). ContainsAt xs g) e m))
 
-    stay : (g : Fixup) → Has s.fresh g ⊎ Has fs g → Waits s g × Apart i f g
+    stay : (g : Fixup) → ContainsAt s.fresh g ⊎ ContainsAt fs g → Waits s g × Apart i f g
     stay g (inl m) = (inl m, inl (all-has (EndsBefore i f) s.fresh g u.held_first.0 m))
-    stay g (inr m) = (inr (subst (λ (xs : List Fixup). Has xs g) (sym e) (has_later f fs g m)), all-has (Apart i f) fs g u.held_apart.0 m)
+    stay g (inr m) = (inr (subst (λ (xs : List Fixup). ContainsAt xs g) (sym e) (has_later f fs g m)), all-has (Apart i f) fs g u.held_apart.0 m)
 
 -- code comes, and the same uses wait
 pub grown : (i : Isa) (start s r : State) (more : List ℕ) → r.code ≡ s.code ++ more → ((g : Fixup) → Waits s g → Waits r g) → ((g : Fixup) → Waits r g → Waits s g) → Step i start s r (λ _. ⊥)
@@ -102,19 +102,19 @@ module _ (i : Isa) (y : Lawful i) (start s r : State) (f : Fixup) (o : Orderly i
         aligned = rw v.behind_code (aligned_multiple i.align (cur_offset s) (some_alignment i y));
         within = omega arith;
         whole = ap (λ (x : List ℕ). take (length w) (drop at x)) e ∙ ap (take (length w)) (drop_at (padded_to code at) w at padded) ∙ take_all (length w) w (omega arith);
-        own_waits = inl (subst (λ (xs : List Fixup). Has xs own) (sym fresh) (has_push fs own));
+        own_waits = inl (subst (λ (xs : List Fixup). ContainsAt xs own) (sym fresh) (has_push fs own));
       } in
       let b : ByVeneer i start s r f at = record { written = patch_written i y s f at more p.within q r c; veneer = stands } in
-      let stay : (g : Fixup) → Has fs g ⊎ Has r.held g → (Waits s g × ((h : Fixup) → h ≡ f → Apart i h g)) ⊎ NewOwn i start s r (λ h. h ≡ f) g = λ g x. let z = m.stay g x in inl (z.0, λ h t. rw t z.1) in
+      let stay : (g : Fixup) → ContainsAt fs g ⊎ ContainsAt r.held g → (Waits s g × ((h : Fixup) → h ≡ f → Apart i h g)) ⊎ NewOwn i start s r (λ h. h ≡ f) g = λ g x. let z = m.stay g x in inl (z.0, λ h t. rw t z.1) in
       let new : (g : Fixup) → own ≡ g → NewOwn i start s r (λ h. h ≡ f) g = λ g x. record { patched_use = f; at = at; touched = refl; is = sym x; made = b } in
       record {
         longer = omega (arith, v.behind_code);
         same = λ from k h apart. ap (λ (x : List ℕ). take k (drop from x)) c ∙ patch_same i y s f at more p.within q from k h (apart f refl);
         old = λ g t. rw t old;
         waited = λ g t. rw t waited;
-        left = λ g x. ⊎_elim (λ (t : g ≡ f). inl t) (λ (z : Has fs g ⊎ Has r.held g). inr (⊎_elim (λ (h : Has fs g). inl (subst (λ (xs : List Fixup). Has xs g) (sym fresh) (has_append_left fs (own ∷ []) g h))) (λ (h : Has r.held g). inr h) z)) (m.left g x);
+        left = λ g x. ⊎_elim (λ (t : g ≡ f). inl t) (λ (z : ContainsAt fs g ⊎ ContainsAt r.held g). inr (⊎_elim (λ (h : ContainsAt fs g). inl (subst (λ (xs : List Fixup). ContainsAt xs g) (sym fresh) (has_append_left fs (own ∷ []) g h))) (λ (h : ContainsAt r.held g). inr h) z)) (m.left g x);
         came = λ g x. ⊎_elim
-            (λ (h : Has r.fresh g). ⊎_elim (λ (z : Has fs g). stay g (inl z)) (λ (z : own ≡ g). inr (new g z)) (has_push_cases fs own g (subst (λ (xs : List Fixup). Has xs g) fresh h)))
-            (λ (h : Has r.held g). stay g (inr h)) x;
+            (λ (h : ContainsAt r.fresh g). ⊎_elim (λ (z : ContainsAt fs g). stay g (inl z)) (λ (z : own ≡ g). inr (new g z)) (has_push_cases fs own g (subst (λ (xs : List Fixup). ContainsAt xs g) fresh h)))
+            (λ (h : ContainsAt r.held g). stay g (inr h)) x;
         done = λ g t. inr (at, subst (λ (h : Fixup). ByVeneer i start s r h at) (sym t) b);
       }

@@ -1,7 +1,7 @@
 -- The uses that wait, before an island and after it.
 use Rattle.std.specs.Prelude.{◌≡◌, ℕ, ◌+◌, ◌%◌, ◌<◌, ◌≤◌, true, ◌⊎◌, List, length, take, drop, slice_index}
 use Rattle.std.proofs.Math.IntN.{sub_ℕ}
-use Rattle.std.specs.List.{ContainsAt as Has}
+use Rattle.std.specs.List.{ContainsAt}
 use Rattle.isa.specs.Isa.{Isa, bytes_at}
 use Rattle.model.specs.declared.rows.Fixup.{Fixup}
 use Rattle.model.specs.State.{State, cur_offset}
@@ -11,7 +11,7 @@ use Rattle.model.specs.Uses.{Apart}
 
 -- a use is among the fresh or the held ones
 abbrev pub Waits : State → Fixup → Type 0
-Waits s f = Has s.fresh f ⊎ Has s.held f
+Waits s f = ContainsAt s.fresh f ⊎ ContainsAt s.held f
 
 -- the bytes of a use as they stand
 abbrev pub use_bytes : Isa → State → Fixup → List ℕ

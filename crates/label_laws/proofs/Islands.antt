@@ -1,6 +1,6 @@
 -- Islands and finishing keep the tables sound, and no label goes forward.
 use Rattle.std.proofs.Common.{◌≡◌, ℕ, zero, suc, ◌+◌, Bool, ltb, List, [], ◌∷◌, length, drop, Some, None, Option, refl, ap}
-use Rattle.std.specs.List.{AllByRecursion as All}
+use Rattle.std.specs.List.{AllByRecursion}
 use Rattle.std.proofs.ByRecursion.{All-drop, All-push}
 use Rattle.isa.specs.Isa.{Isa}
 use Rattle.model.specs.declared.rows.Fixup.{Fixup}
@@ -53,9 +53,9 @@ less_fresh_goes s k = goes_beside s (less_fresh s) k (record { labels = k.labels
 less_held_goes : (s : State) → Sound s → Goes s (less_held s)
 less_held_goes s k = goes_beside s (less_held s) k (record { labels = k.labels; branches = k.branches; fresh = k.fresh; held = All-drop (UseAmong (length s.labels)) 1 s.held k.held; waits = k.waits; apart = k.apart }) refl
 
-all_insert : (n : ℕ) (f : Fixup) (gs : List Fixup) → UseAmong n f → All (UseAmong n) gs → All (UseAmong n) (insert_held f gs)
+all_insert : (n : ℕ) (f : Fixup) (gs : List Fixup) → UseAmong n f → AllByRecursion (UseAmong n) gs → AllByRecursion (UseAmong n) (insert_held f gs)
 all_insert n f [] u a = (u, tt)
-all_insert n f (g ∷ gs) u a = either (All (UseAmong n)) (comes_before f g) _ _ (u, a) (a.0, all_insert n f gs u a.1)
+all_insert n f (g ∷ gs) u a = either (AllByRecursion (UseAmong n)) (comes_before f g) _ _ (u, a) (a.0, all_insert n f gs u a.1)
 
 put_aside_goes : (s : State) (f : Fixup) → UseAmong (length s.labels) f → Sound s → Goes s (with_held (less_fresh s) (insert_held f s.held))
 put_aside_goes s f u k =
@@ -65,7 +65,7 @@ put_aside_goes s f u k =
 fresh_step_gets : (i : Isa) (force : Bool) (t : ℕ) (s : State) (f : Fixup) → UseAmong (length s.labels) f → Sound s → Gets s (fresh_step i force t s f)
 fresh_step_gets i force t s f u k = either (Gets s) (is_ripe i t s f) _ _ (handled_gets i (fate i force s f) s (less_fresh s) f k (less_fresh_goes s k) u) (record { holds = put_aside_goes s f u k })
 
-fresh_pass_gets : (i : Isa) (force : Bool) (t : ℕ) (fs : List Fixup) (s : State) → All (UseAmong (length s.labels)) fs → Sound s → Gets s (fresh_pass i force t fs s)
+fresh_pass_gets : (i : Isa) (force : Bool) (t : ℕ) (fs : List Fixup) (s : State) → AllByRecursion (UseAmong (length s.labels)) fs → Sound s → Gets s (fresh_pass i force t fs s)
 fresh_pass_gets i force t [] s u k = reaches s k
 fresh_pass_gets i force t (f ∷ fs) s u k =
     let p = fresh_step i force t s f in
@@ -73,7 +73,7 @@ fresh_pass_gets i force t (f ∷ fs) s u k =
     let v = uses_among (length s.labels) (length p.state.labels) g.holds.later.more fs u.1 in
     go_on_gets p.failed s p (λ r. fresh_pass i force t fs r) g (fresh_pass_gets i force t fs p.state v g.holds.sound)
 
-held_pass_gets : (i : Isa) (force : Bool) (t : ℕ) (fs : List Fixup) (s : State) → All (UseAmong (length s.labels)) fs → Sound s → Gets s (held_pass i force t fs s)
+held_pass_gets : (i : Isa) (force : Bool) (t : ℕ) (fs : List Fixup) (s : State) → AllByRecursion (UseAmong (length s.labels)) fs → Sound s → Gets s (held_pass i force t fs s)
 held_pass_gets i force t [] s u k = reaches s k
 held_pass_gets i force t (f ∷ fs) s u k =
     let p = handled i (fate i force s f) s (less_held s) f in

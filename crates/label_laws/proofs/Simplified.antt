@@ -1,7 +1,7 @@
 -- Simplifying keeps the tables sound, and no label goes forward.
 use Rattle.std.proofs.Common.{◌≡◌, ℕ, zero, suc, ◌-◌, ◌<◌, ◌≤◌, Bool, true, false, ◌&&◌, ◌||◌, eqb, ltb, ◌≢◌, ◌⊎◌, List, [], map, length, get_or, sym, refl, ap, ◌∙◌, inl, inr, arith}
 use lib.ListN.{length-map}
-use Rattle.std.specs.List.{AllByRecursion as All}
+use Rattle.std.specs.List.{AllByRecursion}
 use Rattle.std.proofs.lemmas.Bool.{cases_lt, cond_both, and_parts, or_parts, ltb-true, eqb-true, eqb-false}
 use Rattle.std.proofs.lemmas.List.{get_or_past}
 use Rattle.std.proofs.ByRecursion.{All-get_or, All-take, All-set}
@@ -68,7 +68,7 @@ redirect_goes s t elsewhere k =
       later = m.later;
     }
 
-turned-among : (n : ℕ) (bs : List Branch) (j l : ℕ) → l < n → All (BranchAmong n) bs → BranchAmong n (turned (get_or bs j no_branch) l)
+turned-among : (n : ℕ) (bs : List Branch) (j l : ℕ) → l < n → AllByRecursion (BranchAmong n) bs → BranchAmong n (turned (get_or bs j no_branch) l)
 turned-among n bs j l h a = by (cases_lt j (length bs))
   where
     by : (j < length bs) ⊎ (length bs ≤ j) → BranchAmong n (turned (get_or bs j no_branch) l)

@@ -1,6 +1,6 @@
 -- Every edit of the tables keeps them sound.
 use Rattle.std.proofs.Common.{◌≡◌, ℕ, zero, suc, ◌<◌, ◌≤◌, Bool, true, false, ◌≢◌, List, [], ◌∷◌, ◌++◌, map, length, set, sym, refl, ap, ◌∙◌, subst, append_assoc, arith, length-set}
-use Rattle.std.specs.List.{AllByRecursion as All}
+use Rattle.std.specs.List.{AllByRecursion}
 use Rattle.std.proofs.lemmas.Bool.{true≢false}
 use Rattle.std.proofs.lemmas.List.{length_push, get_or_push, get_or-set_same, get_or-set_other, map_push}
 use Rattle.std.proofs.ByRecursion.{All-push, All-weaker}
@@ -17,15 +17,15 @@ use Rattle.label_laws.proofs.Distinct.{all_second, all_out, all_in, distinct_out
 use Rattle.label_laws.proofs.Edits.{Keeps, pushed_row, pushed_keeps, bound_row, bound_keeps}
 
 -- what is among some labels is among more
-pub uses_among : (n m : ℕ) → n ≤ m → (fs : List Fixup) → All (UseAmong n) fs → All (UseAmong m) fs
+pub uses_among : (n m : ℕ) → n ≤ m → (fs : List Fixup) → AllByRecursion (UseAmong n) fs → AllByRecursion (UseAmong m) fs
 uses_among n m h = All-weaker (UseAmong n) (UseAmong m) (λ f u. omega arith)
 
-pub branches_among : (n m : ℕ) → n ≤ m → (bs : List Branch) → All (BranchAmong n) bs → All (BranchAmong m) bs
+pub branches_among : (n m : ℕ) → n ≤ m → (bs : List Branch) → AllByRecursion (BranchAmong n) bs → AllByRecursion (BranchAmong m) bs
 branches_among n m h = All-weaker (BranchAmong n) (BranchAmong m) (λ b u. record { forward = u.forward; room = u.room; target = omega (arith, u.target) })
 
 module _ (ls us : List Label) (bs : List Branch) (fs hs : List Fixup) (k : Keeps ls us) where
   -- an edit of the labels, with other pending ones
-  pub tables_with : (ds es : List DeferredTrap) (cs ks : List Constant) (ns ms : List ℕ) → All (Waits us) (pending es ks ms) → Distinct (pending es ks ms) → Tables ls bs fs hs ds cs ns → Tables us bs fs hs es ks ms
+  pub tables_with : (ds es : List DeferredTrap) (cs ks : List Constant) (ns ms : List ℕ) → AllByRecursion (Waits us) (pending es ks ms) → Distinct (pending es ks ms) → Tables ls bs fs hs ds cs ns → Tables us bs fs hs es ks ms
   tables_with ds es cs ks ns ms w a t = record {
     labels = k.orderly;
     branches = branches_among (length ls) (length us) k.later.more bs t.branches;
@@ -57,7 +57,7 @@ pushed_waits ls = record { exists = rw length_push (omega arith); row = get_or_p
 still_waits : (ls : List Label) (l at p : ℕ) → Waits ls p → p ≢ l → Waits (bound_at ls l at) p
 still_waits ls l at p w h = record { exists = rw length-set w.exists; row = bound_row ls l at p h ∙ w.row }
 
-waits_bound : (ls : List Label) (l at : ℕ) (ps : List ℕ) → All (Waits ls) ps → All (λ z. z ≢ l) ps → All (Waits (bound_at ls l at)) ps
+waits_bound : (ls : List Label) (l at : ℕ) (ps : List ℕ) → AllByRecursion (Waits ls) ps → AllByRecursion (λ z. z ≢ l) ps → AllByRecursion (Waits (bound_at ls l at)) ps
 waits_bound ls l at [] w a = tt
 waits_bound ls l at (p ∷ ps) w a = (still_waits ls l at p w.0 a.0, waits_bound ls l at ps w.1 a.1)
 
@@ -65,7 +65,7 @@ waiting_keeps : (ls : List Label) (l at : ℕ) → Orderly ls → Waits ls l →
 waiting_keeps ls l at o w = bound_keeps ls l at (ap (λ (x : Label). x.offset) w.row) (ap (λ (x : Label). x.alias) w.row) o
 
 -- one constant changes, and those of other labels keep theirs
-other_labels : (cs : List Constant) (n : ℕ) (x : Constant) (ns : List ℕ) → All (λ z. z ≢ label_of cs n) (map (label_of cs) ns) → map (label_of (set cs n x)) ns ≡ map (label_of cs) ns
+other_labels : (cs : List Constant) (n : ℕ) (x : Constant) (ns : List ℕ) → AllByRecursion (λ z. z ≢ label_of cs n) (map (label_of cs) ns) → map (label_of (set cs n x)) ns ≡ map (label_of cs) ns
 other_labels cs n x [] a = refl
 other_labels cs n x (m ∷ ns) a =
     let e : label_of (set cs n x) m ≡ label_of cs m = ap (λ (c : Constant). c.label) (get_or-set_other cs n m x (record { size = 0; align = 1; label = unknown }) (λ z. a.0 (ap (label_of cs) z))) in
@@ -90,7 +90,7 @@ module _ (ls : List Label) (bs : List Branch) (fs hs : List Fixup) (ds : List De
   pub registered : (size align : ℕ) → Tables ls bs fs hs ds cs ns → Tables ls bs fs hs ds (cs ++ record { size = size; align = align; label = unknown } ∷ []) ns
   registered size align t =
       let e = ap (λ (zs : List ℕ). traps_labels ++ zs) (sym (registered_labels cs size align ns)) in
-      record { labels = t.labels; branches = t.branches; fresh = t.fresh; held = t.held; waits = subst (All (Waits ls)) e t.waits; apart = subst Distinct e t.apart }
+      record { labels = t.labels; branches = t.branches; fresh = t.fresh; held = t.held; waits = subst (AllByRecursion (Waits ls)) e t.waits; apart = subst Distinct e t.apart }
 
   -- a label for the user
   pub labelled : length ls < max_labels → Tables ls bs fs hs ds cs ns → Tables (ls ++ unbound false ∷ []) bs fs hs ds cs ns
@@ -103,7 +103,7 @@ module _ (ls : List Label) (bs : List Branch) (fs hs : List Fixup) (ds : List De
       let es = ds ++ record { label = length ls; code = code } ∷ [] in
       let e : traps_labels ++ length ls ∷ map (label_of cs) ns ≡ pending es cs ns = sym (ap (λ (zs : List ℕ). zs ++ map (label_of cs) ns) (map_push (λ (d : DeferredTrap). d.label) ds (record { label = length ls; code = code })) ∙ append_assoc traps_labels (length ls ∷ []) (map (label_of cs) ns)) in
       tables_with ls us bs fs hs (pushed_keeps ls true h t.labels) ds es cs cs ns ns
-      (subst (All (Waits us)) e (all_in (Waits us) (length ls) traps_labels (map (label_of cs) ns) (pushed_waits ls) (All-weaker (Waits ls) (Waits us) (waits_pushed ls true) (pending ds cs ns) t.waits)))
+      (subst (AllByRecursion (Waits us)) e (all_in (Waits us) (length ls) traps_labels (map (label_of cs) ns) (pushed_waits ls) (All-weaker (Waits ls) (Waits us) (waits_pushed ls true) (pending ds cs ns) t.waits)))
       (subst Distinct e (distinct_in (length ls) traps_labels (map (label_of cs) ns) (All-weaker (Waits ls) (λ z. z ≢ length ls) (waits_not_new ls) (pending ds cs ns) t.waits) t.apart))
       t
 
@@ -118,7 +118,7 @@ module _ (ls : List Label) (bs : List Branch) (fs hs : List Fixup) (ds : List De
       let m : map (label_of (set cs n x)) (ns ++ n ∷ []) ≡ map (label_of cs) ns ++ length ls ∷ [] = map_push (label_of (set cs n x)) ns n ∙ rw (others, this) in
       let e : pending ds cs ns ++ length ls ∷ [] ≡ pending ds (set cs n x) (ns ++ n ∷ []) = append_assoc traps_labels (map (label_of cs) ns) (length ls ∷ []) ∙ ap (λ (zs : List ℕ). traps_labels ++ zs) (sym m) in
       tables_with ls us bs fs hs (pushed_keeps ls true k t.labels) ds ds cs (set cs n x) ns (ns ++ n ∷ [])
-      (subst (All (Waits us)) e (All-push (Waits us) (pending ds cs ns) (length ls) (All-weaker (Waits ls) (Waits us) (waits_pushed ls true) (pending ds cs ns) t.waits) (pushed_waits ls)))
+      (subst (AllByRecursion (Waits us)) e (All-push (Waits us) (pending ds cs ns) (length ls) (All-weaker (Waits ls) (Waits us) (waits_pushed ls true) (pending ds cs ns) t.waits) (pushed_waits ls)))
       (subst Distinct e (distinct_push (length ls) (pending ds cs ns) (All-weaker (Waits ls) (λ z. z ≢ length ls) (waits_not_new ls) (pending ds cs ns) t.waits) t.apart))
       t
 
@@ -142,7 +142,7 @@ module _ (ls : List Label) (bs : List Branch) (fs hs : List Fixup) (ds : List De
       let others = other_labels cs n x ns (all_second (λ z. z ≢ label_of cs n) traps_labels (map (label_of cs) ns) a.0) in
       let e : pending ds cs ns ≡ pending ds (set cs n x) ns = ap (λ (zs : List ℕ). traps_labels ++ zs) (sym others) in
       tables_with ls us bs fs hs (constant_keeps n at t) ds ds cs (set cs n x) (n ∷ ns) ns
-      (subst (All (Waits us)) e (waits_bound ls (label_of cs n) at (pending ds cs ns) w.1 a.0))
+      (subst (AllByRecursion (Waits us)) e (waits_bound ls (label_of cs n) at (pending ds cs ns) w.1 a.0))
       (subst Distinct e a.1)
       t
 

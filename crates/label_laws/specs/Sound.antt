@@ -1,6 +1,6 @@
 -- What holds of labels, and of the tables that name them, after every call.
 use Rattle.std.specs.Prelude.{◌≡◌, ℕ, ◌<◌, ◌≤◌, true, ◌≢◌, ◌⊎◌, List, [], ◌∷◌, ◌++◌, map, length, slice_index_or}
-use Rattle.std.specs.List.{AllByRecursion as All}
+use Rattle.std.specs.List.{AllByRecursion}
 use Rattle.model.specs.declared.rows.Label.{Label}
 use Rattle.model.specs.declared.rows.Fixup.{Fixup}
 use Rattle.model.specs.declared.rows.Branch.{Branch}
@@ -19,7 +19,7 @@ Row n x = (x.alias ≡ unknown) ⊎ ((x.alias < n) × (x.offset ≡ unknown))
 -- a table of labels, of which each leads to one that is no alias
 pub record Orderly (ls : List Label) : Type 0 where
   pub few : length ls ≤ max_labels
-  pub rows : All (Row (length ls)) ls
+  pub rows : AllByRecursion (Row (length ls)) ls
   pub ends : (l : ℕ) → (m : ℕ) × Leads ls l m
 
 -- a use waits for one of n labels
@@ -48,16 +48,16 @@ pending ds cs ns = map (λ (d : DeferredTrap). d.label) ds ++ map (label_of cs) 
 -- no number comes twice
 abbrev pub Distinct : List ℕ → Type 0
 Distinct [] = Unit {0}
-Distinct (x ∷ xs) = All (λ y. y ≢ x) xs × Distinct xs
+Distinct (x ∷ xs) = AllByRecursion (λ y. y ≢ x) xs × Distinct xs
 
 -- The tables that have to do with labels: those of labels, branches, fresh and held fixups, deferred traps, constants and
 -- requests. What branches and fixups name are labels of the table, and no two traps or constants have one label.
 pub record Tables (ls : List Label) (bs : List Branch) (fs hs : List Fixup) (ds : List DeferredTrap) (cs : List Constant) (ns : List ℕ) : Type 0 where
   pub labels : Orderly ls
-  pub branches : All (BranchAmong (length ls)) bs
-  pub fresh : All (UseAmong (length ls)) fs
-  pub held : All (UseAmong (length ls)) hs
-  pub waits : All (Waits ls) (pending ds cs ns)
+  pub branches : AllByRecursion (BranchAmong (length ls)) bs
+  pub fresh : AllByRecursion (UseAmong (length ls)) fs
+  pub held : AllByRecursion (UseAmong (length ls)) hs
+  pub waits : AllByRecursion (Waits ls) (pending ds cs ns)
   pub apart : Distinct (pending ds cs ns)
 
 -- the tables of a buffer

@@ -1,6 +1,6 @@
 -- A use in place can be patched by its set, as far as its own bytes and its label go.
 use Rattle.std.proofs.Common.{◌≡◌, ℕ, Bool, true, false, not, ◌||◌, List, ℤ, pos, refl, arith, length-drop, length-take}
-use Rattle.std.specs.List.{AllByRecursion as All}
+use Rattle.std.specs.List.{AllByRecursion}
 use Rattle.std.proofs.ByRecursion.{All-weaker}
 use Rattle.std.proofs.lemmas.Bool.{lt-ltb, eq-eqb, and_from}
 use Rattle.isa.specs.Isa.{Isa, bytes_at}
@@ -32,5 +32,5 @@ fits_in_place i s f o p =
     (holds_or_not (is_known (offset_of s.labels f.label)) _ (λ k. eq-eqb _ _ (resolved_whole i s.labels (root s.labels f.label) o.labels_whole k)))))
 
 -- all that wait fit
-pub all_fit : (i : Isa) (s : State) → Orderly i s → All (λ (f : Fixup). fits i s f ≡ true) s.fresh × All (λ (f : Fixup). fits i s f ≡ true) s.held
+pub all_fit : (i : Isa) (s : State) → Orderly i s → AllByRecursion (λ (f : Fixup). fits i s f ≡ true) s.fresh × AllByRecursion (λ (f : Fixup). fits i s f ≡ true) s.held
 all_fit i s o = (All-weaker _ _ (λ f p. fits_in_place i s f o p) s.fresh o.uses.fresh_in_place, All-weaker _ _ (λ f p. fits_in_place i s f o p) s.held o.uses.held_in_place)

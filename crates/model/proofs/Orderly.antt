@@ -2,7 +2,7 @@
 use Rattle.std.proofs.Common.{◌≡◌, ℕ, ◌+◌, ◌-◌, ◌%◌, ◌<◌, ◌≤◌, Bool, true, false, ◌&&◌, eqb, ltb, leb, List, [], ◌∷◌, ◌++◌, map, length, get_or, take, drop, set, pos, sym, refl, ap, ◌∙◌, subst, ⊎_elim, append_assoc, arith, length-append, length-set, length-take}
 use lib.IntN.{sub_ℕ}
 use lib.ListN.{length-replicate}
-use Rattle.std.specs.List.{AllByRecursion as All}
+use Rattle.std.specs.List.{AllByRecursion}
 use Rattle.std.proofs.lemmas.List.{get_or-take, get_or_append_left, get_or_push, get_or-set_same, get_or-set_other, get_or_past, drop_at, take_all}
 use Rattle.std.proofs.ByRecursion.{All-get_or, All-from_get_or, All-push, All-weaker, All-take, All-set, All-map}
 use Rattle.std.proofs.lemmas.Bool.{and_parts, leb-true, cases_lt, cases_eq, cond_both, cases_Bool, false≢true}
@@ -44,7 +44,7 @@ abbrev pub LabelWhole : Isa → ℕ → Type 0
 LabelWhole i offset = is_known offset ≡ true → offset % i.align ≡ 0
 
 abbrev pub LabelsWhole : Isa → List Label → Type 0
-LabelsWhole i ls = All (λ (x : Label). LabelWhole i x.offset) ls
+LabelsWhole i ls = AllByRecursion (λ (x : Label). LabelWhole i x.offset) ls
 
 -- a constant's alignment is a multiple of the set's
 pub record ConstantWhole (i : Isa) (c : Constant) : Type 0 where
@@ -71,11 +71,11 @@ pub record Orderly (i : Isa) (s : State) : Type 0 where
   pub room : length s.code ≤ max_code
   pub steady : Steady s
   pub labels_whole : LabelsWhole i s.labels
-  pub constants_whole : All (ConstantWhole i) s.constants
-  pub requests_known : All (λ (n : ℕ). n < length s.constants) s.requested
-  pub placed_below : All (PlacedBelow s) s.placed
+  pub constants_whole : AllByRecursion (ConstantWhole i) s.constants
+  pub requests_known : AllByRecursion (λ (n : ℕ). n < length s.constants) s.requested
+  pub placed_below : AllByRecursion (PlacedBelow s) s.placed
   pub uses : Uses i s.code s.held s.fresh
-  pub served : All (Served i s.fresh) s.branches
+  pub served : AllByRecursion (Served i s.fresh) s.branches
 
 unknown_whole : (i : Isa) → LabelWhole i unknown
 unknown_whole i e = absurd (false≢true e)
@@ -109,7 +109,7 @@ record Alike (f g : Fixup) : Type 0 where
 same_alike : (f g : Fixup) → f ≡ g → Alike f g
 same_alike f g e = record { offset = ap (λ (x : Fixup). x.offset) e; kind = ap (λ (x : Fixup). x.kind) e }
 
-served_alike : (i : Isa) (c n : ℕ) (fresh gs : List Fixup) (bs : List Branch) → AllStand c n bs → ((k : ℕ) → k < n → Alike (get_or gs k no_fixup) (get_or fresh k no_fixup)) → All (Served i fresh) bs → All (Served i gs) bs
+served_alike : (i : Isa) (c n : ℕ) (fresh gs : List Fixup) (bs : List Branch) → AllStand c n bs → ((k : ℕ) → k < n → Alike (get_or gs k no_fixup) (get_or fresh k no_fixup)) → AllByRecursion (Served i fresh) bs → AllByRecursion (Served i gs) bs
 served_alike i c n fresh gs bs all same a = All-from_get_or (Served i gs) bs no_branch (λ k h.
     let b = get_or bs k no_branch in
     let s = All-get_or (Served i fresh) bs k no_branch h a in
@@ -117,10 +117,10 @@ served_alike i c n fresh gs bs all same a = All-from_get_or (Served i gs) bs no_
     record { at = e.offset ∙ s.at; wide = rw e.kind s.wide; no_sum = rw e.kind s.no_sum })
 
 -- a placed constant stays below
-placed_kept : (s r : State) (ps : List PlacedConstant) → length s.constants ≤ length r.constants → ((n : ℕ) → n < length s.constants → (constant_row r n).size ≡ (constant_row s n).size) → ((n : ℕ) → Below n s → Below n r) → All (PlacedBelow s) ps → All (PlacedBelow r) ps
+placed_kept : (s r : State) (ps : List PlacedConstant) → length s.constants ≤ length r.constants → ((n : ℕ) → n < length s.constants → (constant_row r n).size ≡ (constant_row s n).size) → ((n : ℕ) → Below n s → Below n r) → AllByRecursion (PlacedBelow s) ps → AllByRecursion (PlacedBelow r) ps
 placed_kept s r ps more same below a = All-weaker (PlacedBelow s) (PlacedBelow r) (λ p k. record { known = omega (arith, k.known); below = rw (same p.number k.known) (below _ k.below) }) ps a
 
-still_known : (n m : ℕ) (ns : List ℕ) → n ≤ m → All (λ (x : ℕ). x < n) ns → All (λ (x : ℕ). x < m) ns
+still_known : (n m : ℕ) (ns : List ℕ) → n ≤ m → AllByRecursion (λ (x : ℕ). x < n) ns → AllByRecursion (λ (x : ℕ). x < m) ns
 still_known n m ns h a = All-weaker _ _ (λ x l. omega arith) ns a
 
 -- the alignment that a constant may have
@@ -259,20 +259,20 @@ module _ (i : Isa) (y : Lawful i) where
 
   -- the constants and branches stay, and the code gets no shorter
   carried : (s r : State) → Orderly i s → r.constants ≡ s.constants → r.requested ≡ s.requested → r.placed ≡ s.placed → r.branches ≡ s.branches → length s.code ≤ length r.code
-      → length r.code ≤ max_code → Steady r → LabelsWhole i r.labels → Uses i r.code r.held r.fresh → All (Served i r.fresh) s.branches → Orderly i r
+      → length r.code ≤ max_code → Steady r → LabelsWhole i r.labels → Uses i r.code r.held r.fresh → AllByRecursion (Served i r.fresh) s.branches → Orderly i r
   carried s r o c q p b longer room steady labels uses served = record {
     room = room;
     steady = steady;
     labels_whole = labels;
     constants_whole = rw c o.constants_whole;
     requests_known = rw (c, q) o.requests_known;
-    placed_below = subst (All (PlacedBelow r)) (sym p) (placed_kept s r s.placed (rw c (omega arith)) (λ n _. rw c) (λ n k. record { within = omega (arith, k.within); starts = rw b k.starts }) o.placed_below);
+    placed_below = subst (AllByRecursion (PlacedBelow r)) (sym p) (placed_kept s r s.placed (rw c (omega arith)) (λ n _. rw c) (λ n k. record { within = omega (arith, k.within); starts = rw b k.starts }) o.placed_below);
     uses = uses;
     served = rw b served;
   }
 
   -- a use or a branch is appended: the fixups before it serve as before
-  served_push : (s : State) (f : Fixup) → Orderly i s → All (Served i (s.fresh ++ f ∷ [])) s.branches
+  served_push : (s : State) (f : Fixup) → Orderly i s → AllByRecursion (Served i (s.fresh ++ f ∷ [])) s.branches
   served_push s f o = served_alike i _ _ s.fresh (s.fresh ++ f ∷ []) s.branches o.steady.stand (λ k h. same_alike _ _ (get_or_append_left s.fresh (f ∷ []) no_fixup k h)) o.served
 
   appended_in_place : (s : State) (l k : ℕ) (bytes : List ℕ) → Fits i s l k bytes → (i.adds k ≡ true → i.reads k bytes ≡ pos 0) → InPlace i (s.code ++ bytes) (fixup_at i l (cur_offset s) k)
@@ -317,7 +317,7 @@ module _ (i : Isa) (y : Lawful i) where
       }
 
   -- without standing branches nothing has to serve
-  bare_served : (s : State) (gs : List Fixup) → s.branches ≡ [] → All (Served i gs) s.branches
+  bare_served : (s : State) (gs : List Fixup) → s.branches ≡ [] → AllByRecursion (Served i gs) s.branches
   bare_served s gs e = rw e tt
 
   near_rewritten : (s : State) (f : Fixup) (place : ℕ) → Orderly i s → InPlace i s.code f → Near i s f place → Rewritten s.code f place
@@ -406,7 +406,7 @@ module _ (i : Isa) (y : Lawful i) where
       (λ (d : m ≡ n → ⊥). ap (λ (c : Constant). c.size) (get_or-set_other s.constants n m (record { size = (constant_row s n).size; align = (constant_row s n).align; label = l }) (record { size = 0; align = 1; label = unknown }) d))
       (cases_eq m n)
 
-  labelled_whole : (s : State) (n l : ℕ) → n < length s.constants → All (ConstantWhole i) s.constants → All (ConstantWhole i) (label_constant s n l)
+  labelled_whole : (s : State) (n l : ℕ) → n < length s.constants → AllByRecursion (ConstantWhole i) s.constants → AllByRecursion (ConstantWhole i) (label_constant s n l)
   labelled_whole s n l h a =
       let c = All-get_or (ConstantWhole i) s.constants n (record { size = 0; align = 1; label = unknown }) h a in
       All-set (ConstantWhole i) s.constants n _ (record { some = c.some; whole = c.whole }) a
@@ -416,7 +416,7 @@ module _ (i : Isa) (y : Lawful i) where
   constant_placed_orderly s n ns o e h room =
       let at = aligned (constant_row s n).align (cur_offset s) in
       let r = place_constant (with_requested s ns) n at in
-      let q : All (λ (m : ℕ). m < length s.constants) (n ∷ ns) = subst (All (λ (m : ℕ). m < length s.constants)) h o.requests_known in
+      let q : AllByRecursion (λ (m : ℕ). m < length s.constants) (n ∷ ns) = subst (AllByRecursion (λ (m : ℕ). m < length s.constants)) h o.requests_known in
       let c = All-get_or (ConstantWhole i) s.constants n (record { size = 0; align = 1; label = unknown }) q.0 o.constants_whole in
       let l : length r.code ≡ at + (constant_row s n).size = length_padded s.code (zeros (constant_row s n).size) at (omega arith) ∙ simp length-replicate in
       let k : length r.constants ≡ length s.constants = simp length-set in
@@ -466,7 +466,7 @@ module _ (i : Isa) (y : Lawful i) where
       }
 
   -- the pool is copied into the places of the constants
-  filled_long : (s : State) (pool : List ℕ) (ps : List PlacedConstant) (code : List ℕ) → All (λ (p : PlacedConstant). p.offset + (constant_row s p.number).size ≤ length code) ps → length (filled s pool ps code) ≡ length code
+  filled_long : (s : State) (pool : List ℕ) (ps : List PlacedConstant) (code : List ℕ) → AllByRecursion (λ (p : PlacedConstant). p.offset + (constant_row s p.number).size ≤ length code) ps → length (filled s pool ps code) ≡ length code
   filled_long s pool [] code a = refl
   filled_long s pool (p ∷ ps) code a =
       let bytes = pooled s pool p.number in

@@ -1,7 +1,7 @@
 -- What each step of an island keeps, holds after the island: P while uses are patched, and Q, which follows from it, while
 -- traps and constants are written.
 use Rattle.std.proofs.Common.{◌≡◌, ℕ, ◌+◌, ◌-◌, ◌≤◌, Bool, true, false, not, ◌&&◌, ltb, leb, List, [], ◌∷◌, ◌++◌, length, drop, Some, None, Option, sym, refl, append_assoc, append-nil, arith}
-use Rattle.std.specs.List.{AllByRecursion as All}
+use Rattle.std.specs.List.{AllByRecursion}
 use Rattle.std.proofs.lemmas.Bool.{ltb-false, not-false, cond_both}
 use Rattle.std.proofs.lemmas.Bool.Decides.{nat_tests}
 use Rattle.isa.specs.Isa.{Isa}
@@ -50,7 +50,7 @@ pub record KeptByIslands (i : Isa) (O : Fixup → Type 0) (P Q : State → Type 
   pub constant_placed : (s : State) (n : ℕ) (ns : List ℕ) → Q s → s.branches ≡ [] → s.requested ≡ n ∷ ns → aligned (constant_row s n).align (cur_offset s) + (constant_row s n).size ≤ max_code → Q (place_constant (with_requested s ns) n (aligned (constant_row s n).align (cur_offset s)))
 
 -- where nothing is asked of the fresh uses
-pub any_uses : (fs : List Fixup) → All (λ _. Unit {0}) fs
+pub any_uses : (fs : List Fixup) → AllByRecursion (λ _. Unit {0}) fs
 any_uses [] = tt
 any_uses (f ∷ fs) = (tt, any_uses fs)
 
@@ -77,7 +77,7 @@ Bare s = s.branches ≡ []
 -- and these are the first fresh fixups, or the held fixups, traps or constants
 record FirstFresh (O : Fixup → Type 0) (fs : List Fixup) (s : State) : Type 0 where
   bare : Bare s
-  old : All O fs
+  old : AllByRecursion O fs
   rest : List Fixup
   first : s.fresh ≡ fs ++ rest
 
@@ -168,7 +168,7 @@ module _ {i : Isa} {O : Fixup → Type 0} {P Q : State → Type 0} (w : KeptByIs
   go_on_written : (p : Progress) → Went P Bare p → Went Q (λ s. P s × Bare s) p
   go_on_written p h = record { holds = w.all_patched p.state h.holds; on = λ e. (h.holds, h.on e) }
 
-  pub island_keeps : (force : Bool) (distance : ℕ) (s : State) → All O s.fresh → P s → Q (island i force distance s).state
+  pub island_keeps : (force : Bool) (distance : ℕ) (s : State) → AllByRecursion O s.fresh → P s → Q (island i force distance s).state
   island_keeps force distance s old p =
       let t = threshold i s distance in
       let whole : Went Q Bare (island i force distance s) =

@@ -1,6 +1,6 @@
 -- Simplifying keeps the code before the first standing branch.
 use Rattle.std.proofs.Common.{◌≡◌, ℕ, zero, suc, ◌+◌, ◌-◌, ◌<◌, ◌≤◌, Bool, List, [], ◌∷◌, length, get_or, take, Result, refl, ◌∙◌, arith, length-take}
-use Rattle.std.specs.List.{AllByRecursion as All}
+use Rattle.std.specs.List.{AllByRecursion}
 use Rattle.std.proofs.lemmas.List.{take-take}
 use Rattle.std.proofs.ByRecursion.{All-get_or, All-from_get_or, All-take, All-set}
 use Rattle.isa.specs.Isa.{Isa}
@@ -22,7 +22,7 @@ use Rattle.model.proofs.Steady.{Steady, last_stands, rules_keep_steady, forgot_s
 -- an offset within the code, before which no standing branch begins
 pub record Below (n : ℕ) (s : State) : Type 0 where
   pub within : n ≤ length s.code
-  pub starts : All (λ (b : Branch). n ≤ b.start) s.branches
+  pub starts : AllByRecursion (λ (b : Branch). n ≤ b.start) s.branches
 
 -- it comes before a branch of any number
 below_start : (n : ℕ) (s : State) (m : ℕ) → m < length s.branches → Below n s → n ≤ (get_or s.branches m no_branch).start
@@ -79,7 +79,7 @@ simplified_before : (n : ℕ) (code : List ℕ) (skip : Bool) (s : State) → Be
 simplified_before n code = simplified_keeps (rules_keep_before n code) (λ s k. record { steady = forgot_steady s k.steady; below = record { within = k.below.within; starts = tt }; same = k.same })
 
 -- all begin where the first begins, or after it
-starts_from : (c f : ℕ) (bs : List Branch) → AllStand c f bs → All (λ (b : Branch). first_start c bs ≤ b.start) bs
+starts_from : (c f : ℕ) (bs : List Branch) → AllStand c f bs → AllByRecursion (λ (b : Branch). first_start c bs ≤ b.start) bs
 starts_from c f [] all = tt
 starts_from c f (b ∷ bs) all = All-from_get_or (λ (x : Branch). b.start ≤ x.start) (b ∷ bs) no_branch from
   where

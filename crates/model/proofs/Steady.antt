@@ -1,6 +1,6 @@
 -- After every list of calls to a lawful set, the standing branches stand.
 use Rattle.std.proofs.Common.{◌≡◌, ℕ, ◌-◌, ◌<◌, ◌≤◌, Bool, false, List, [], length, get_or, take, refl, arith, length-append, length-set, length-take}
-use Rattle.std.specs.List.{AllByRecursion as All}
+use Rattle.std.specs.List.{AllByRecursion}
 use Rattle.std.proofs.ByRecursion.{All-get_or, All-take, All-set, All-push}
 use Rattle.isa.specs.Isa.{Isa}
 use Rattle.isa.specs.Laws.{KindBounds, Lawful}
@@ -20,7 +20,7 @@ use Rattle.model.proofs.Kept.{Fits, Kept, always}
 -- the standing branches stand, and were granted within the largest code
 pub record Steady (s : State) : Type 0 where
   pub stand : AllStand (length s.code) (length s.fresh) s.branches
-  pub low : All (λ (b : Branch). b.end ≤ max_code) s.branches
+  pub low : AllByRecursion (λ (b : Branch). b.end ≤ max_code) s.branches
 
 -- without branches there is nothing to say
 bare_steady : (s : State) → s.branches ≡ [] → Steady s

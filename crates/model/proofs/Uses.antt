@@ -1,7 +1,7 @@
 -- The uses that wait stay in place and apart, as code and uses come and go, and as uses are patched.
 use Rattle.std.proofs.Common.{◌≡◌, ℕ, zero, suc, ◌+◌, ◌-◌, ◌%◌, ◌<◌, ◌≤◌, false, ◌⊎◌, List, [], ◌∷◌, ◌++◌, length, get_or, take, drop, set, sym, refl, ap, ◌∙◌, inl, inr, ⊎_elim, arith, length-append, length-drop, length-take, rules}
 use lib.IntN.{sub_ℕ}
-use Rattle.std.specs.List.{AllByRecursion as All}
+use Rattle.std.specs.List.{AllByRecursion}
 use Rattle.std.proofs.lemmas.List.{places, same_lists, drop-drop, drop_at, get_or-take, length-set, get_or-set_same, get_or-set_other}
 use Rattle.std.proofs.ByRecursion.{All-get_or, All-from_get_or, All-push, All-weaker, All-take, All-set}
 use Rattle.std.proofs.lemmas.Bool.{cases_lt, cases_eq, false≢true}
@@ -16,7 +16,7 @@ use Rattle.model.proofs.Multiples.{reaches}
 use Rattle.model.proofs.Overwritten.{length-overwritten, overwritten_apart}
 
 -- two facts of each element give a third
-pub all_both : {X : Type 0} (P Q R : X → Type 0) → ((x : X) → P x → Q x → R x) → (xs : List X) → All P xs → All Q xs → All R xs
+pub all_both : {X : Type 0} (P Q R : X → Type 0) → ((x : X) → P x → Q x → R x) → (xs : List X) → AllByRecursion P xs → AllByRecursion Q xs → AllByRecursion R xs
 all_both P Q R f [] p q = tt
 all_both P Q R f (x ∷ xs) p q = (f x p.0 q.0, all_both P Q R f xs p.1 q.1)
 
@@ -60,7 +60,7 @@ module _ (i : Isa) where
   order_at (f ∷ fs) zero (suc k) h l o = All-get_or (EndsBefore i f) fs k no_fixup (omega arith) o.0
   order_at (f ∷ fs) (suc j) (suc k) h l o = order_at fs j k (omega arith) (omega arith) o.1
 
-  order_push : (fs : List Fixup) (g : Fixup) → InOrder i fs → All (λ (f : Fixup). EndsBefore i f g) fs → InOrder i (fs ++ g ∷ [])
+  order_push : (fs : List Fixup) (g : Fixup) → InOrder i fs → AllByRecursion (λ (f : Fixup). EndsBefore i f g) fs → InOrder i (fs ++ g ∷ [])
   order_push [] g o a = (tt, tt)
   order_push (f ∷ fs) g o a = (All-push (EndsBefore i f) fs g o.0 a.0, order_push fs g o.1 a.1)
 
@@ -74,11 +74,11 @@ module _ (i : Isa) where
   order_relabelled (f ∷ fs) zero l h o = o
   order_relabelled (f ∷ fs) (suc n) l h o = (All-set (EndsBefore i f) fs n _ (All-get_or (EndsBefore i f) fs n no_fixup (omega arith) o.0) o.0, order_relabelled fs n l (omega arith) o.1)
 
-  all_insert : (P : Fixup → Type 0) (f : Fixup) (gs : List Fixup) → P f → All P gs → All P (insert_held f gs)
+  all_insert : (P : Fixup → Type 0) (f : Fixup) (gs : List Fixup) → P f → AllByRecursion P gs → AllByRecursion P (insert_held f gs)
   all_insert P f [] p a = (p, tt)
-  all_insert P f (g ∷ gs) p a = either (All P) (comes_before f g) (f ∷ g ∷ gs) (g ∷ insert_held f gs) (p, a) (a.0, all_insert P f gs p a.1)
+  all_insert P f (g ∷ gs) p a = either (AllByRecursion P) (comes_before f g) (f ∷ g ∷ gs) (g ∷ insert_held f gs) (p, a) (a.0, all_insert P f gs p a.1)
 
-  apart_insert : (f : Fixup) (gs : List Fixup) → All (Apart i f) gs → AllApart i gs → AllApart i (insert_held f gs)
+  apart_insert : (f : Fixup) (gs : List Fixup) → AllByRecursion (Apart i f) gs → AllApart i gs → AllApart i (insert_held f gs)
   apart_insert f [] a o = (tt, tt)
   apart_insert f (g ∷ gs) a o =
       let swapped : Apart i g f = ⊎_elim (λ x. inr x) (λ x. inl x) a.0 in
@@ -104,7 +104,7 @@ module _ (i : Isa) where
         fresh_in_place = All-push (InPlace i (code ++ more)) fresh g v.fresh_in_place p;
         fresh_in_order = order_push fresh g u.fresh_in_order (All-weaker _ _ ends fresh u.fresh_in_place);
         held_apart = u.held_apart;
-        held_first = all_both _ _ (λ (f : Fixup). All (EndsBefore i f) (fresh ++ g ∷ [])) (λ f q a. All-push (EndsBefore i f) fresh g a (ends f q)) held u.held_in_place u.held_first;
+        held_first = all_both _ _ (λ (f : Fixup). AllByRecursion (EndsBefore i f) (fresh ++ g ∷ [])) (λ f q a. All-push (EndsBefore i f) fresh g a (ends f q)) held u.held_in_place u.held_first;
       }
 
   -- the first fresh use is put aside
@@ -113,8 +113,8 @@ module _ (i : Isa) where
     held_in_place = all_insert (InPlace i code) f held u.fresh_in_place.0 u.held_in_place;
     fresh_in_place = u.fresh_in_place.1;
     fresh_in_order = u.fresh_in_order.1;
-    held_apart = apart_insert f held (All-weaker (λ (h : Fixup). All (EndsBefore i h) (f ∷ fs)) (Apart i f) (λ h a. inr a.0) held u.held_first) u.held_apart;
-    held_first = all_insert (λ (h : Fixup). All (EndsBefore i h) fs) f held u.fresh_in_order.0 (All-weaker (λ (h : Fixup). All (EndsBefore i h) (f ∷ fs)) (λ (h : Fixup). All (EndsBefore i h) fs) (λ h a. a.1) held u.held_first);
+    held_apart = apart_insert f held (All-weaker (λ (h : Fixup). AllByRecursion (EndsBefore i h) (f ∷ fs)) (Apart i f) (λ h a. inr a.0) held u.held_first) u.held_apart;
+    held_first = all_insert (λ (h : Fixup). AllByRecursion (EndsBefore i h) fs) f held u.fresh_in_order.0 (All-weaker (λ (h : Fixup). AllByRecursion (EndsBefore i h) (f ∷ fs)) (λ (h : Fixup). AllByRecursion (EndsBefore i h) fs) (λ h a. a.1) held u.held_first);
   }
 
   -- the first fresh use is overwritten, and waits no longer
@@ -122,11 +122,11 @@ module _ (i : Isa) where
   uses_fresh_done code bytes held fs f e u =
       let room : f.offset + length bytes ≤ length code = omega (arith, u.fresh_in_place.0.within) in
       record {
-        held_in_place = all_both _ (λ (h : Fixup). All (EndsBefore i h) (f ∷ fs)) _ (λ h p a. in_place_apart code bytes f.offset h room (inl a.0) p) held u.held_in_place u.held_first;
+        held_in_place = all_both _ (λ (h : Fixup). AllByRecursion (EndsBefore i h) (f ∷ fs)) _ (λ h p a. in_place_apart code bytes f.offset h room (inl a.0) p) held u.held_in_place u.held_first;
         fresh_in_place = all_both _ (EndsBefore i f) _ (λ g p b. in_place_apart code bytes f.offset g room (inr (omega arith)) p) fs u.fresh_in_place.1 u.fresh_in_order.0;
         fresh_in_order = u.fresh_in_order.1;
         held_apart = u.held_apart;
-        held_first = All-weaker (λ (h : Fixup). All (EndsBefore i h) (f ∷ fs)) (λ (h : Fixup). All (EndsBefore i h) fs) (λ h a. a.1) held u.held_first;
+        held_first = All-weaker (λ (h : Fixup). AllByRecursion (EndsBefore i h) (f ∷ fs)) (λ (h : Fixup). AllByRecursion (EndsBefore i h) fs) (λ h a. a.1) held u.held_first;
       }
 
   -- and so is the first held one
@@ -149,13 +149,13 @@ module _ (i : Isa) where
       let p : InPlace i code last = All-get_or (InPlace i code) fresh n no_fixup (omega arith) u.fresh_in_place in
       let l : last.offset ≤ length code = omega (arith, p.within) in
       record {
-        held_in_place = all_both _ (λ (f : Fixup). All (EndsBefore i f) fresh) _ (λ f q a. in_place_less code last.offset f l (All-get_or (EndsBefore i f) fresh n no_fixup (omega arith) a) q) held u.held_in_place u.held_first;
+        held_in_place = all_both _ (λ (f : Fixup). AllByRecursion (EndsBefore i f) fresh) _ (λ f q a. in_place_less code last.offset f l (All-get_or (EndsBefore i f) fresh n no_fixup (omega arith) a) q) held u.held_in_place u.held_first;
         fresh_in_place = All-from_get_or (InPlace i (take last.offset code)) (take n fresh) no_fixup (λ k m.
             let j : k < n = omega (arith, length-take n fresh) in
             rw (get_or-take n fresh k no_fixup j) (in_place_less code last.offset (get_or fresh k no_fixup) l (order_at fresh k n j (omega arith) u.fresh_in_order) (All-get_or (InPlace i code) fresh k no_fixup (omega arith) u.fresh_in_place)));
         fresh_in_order = order_take n fresh u.fresh_in_order;
         held_apart = u.held_apart;
-        held_first = All-weaker (λ (f : Fixup). All (EndsBefore i f) fresh) (λ (f : Fixup). All (EndsBefore i f) (take n fresh)) (λ f a. All-take (EndsBefore i f) n fresh a) held u.held_first;
+        held_first = All-weaker (λ (f : Fixup). AllByRecursion (EndsBefore i f) fresh) (λ (f : Fixup). AllByRecursion (EndsBefore i f) (take n fresh)) (λ f a. All-take (EndsBefore i f) n fresh a) held u.held_first;
       }
 
   -- a fresh use of a kind that does not add is overwritten, and waits for another label
@@ -166,14 +166,14 @@ module _ (i : Isa) where
       let p : InPlace i code f = All-get_or (InPlace i code) fresh n no_fixup h u.fresh_in_place in
       let room : f.offset + length bytes ≤ length code = omega (arith, p.within) in
       record {
-        held_in_place = all_both _ (λ (g : Fixup). All (EndsBefore i g) fresh) _ (λ g q a. in_place_apart code bytes f.offset g room (inl (All-get_or (EndsBefore i g) fresh n no_fixup h a)) q) held u.held_in_place u.held_first;
+        held_in_place = all_both _ (λ (g : Fixup). AllByRecursion (EndsBefore i g) fresh) _ (λ g q a. in_place_apart code bytes f.offset g room (inl (All-get_or (EndsBefore i g) fresh n no_fixup h a)) q) held u.held_in_place u.held_first;
         fresh_in_place = All-from_get_or (InPlace i (overwritten code f.offset bytes)) (set fresh n (relabelled f l)) no_fixup (λ k m. ⊎_elim
             (λ (e : k ≡ n). rw (e, get_or-set_same fresh n (relabelled f l) no_fixup h) (record { kind = p.kind; whole = p.whole; within = rw (length-overwritten code bytes f.offset room) p.within; unpatched = λ a. absurd (false≢true (sym adds ∙ a)); due = p.due }))
             (λ (d : k ≡ n → ⊥). rw (get_or-set_other fresh n k (relabelled f l) no_fixup d) (other k (omega (arith, length-set fresh n (relabelled f l))) d))
             (cases_eq k n));
         fresh_in_order = order_relabelled fresh n l h u.fresh_in_order;
         held_apart = u.held_apart;
-        held_first = All-weaker (λ (g : Fixup). All (EndsBefore i g) fresh) (λ (g : Fixup). All (EndsBefore i g) (set fresh n (relabelled f l))) (λ g a. All-set (EndsBefore i g) fresh n (relabelled f l) (All-get_or (EndsBefore i g) fresh n no_fixup h a) a) held u.held_first;
+        held_first = All-weaker (λ (g : Fixup). AllByRecursion (EndsBefore i g) fresh) (λ (g : Fixup). AllByRecursion (EndsBefore i g) (set fresh n (relabelled f l))) (λ g a. All-set (EndsBefore i g) fresh n (relabelled f l) (All-get_or (EndsBefore i g) fresh n no_fixup h a) a) held u.held_first;
       }
     where
       other : (k : ℕ) → k < length fresh → (k ≡ n → ⊥) → InPlace i (overwritten code (get_or fresh n no_fixup).offset bytes) (get_or fresh k no_fixup)

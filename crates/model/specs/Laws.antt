@@ -1,6 +1,6 @@
 -- What holds of every list of calls, over any instruction set.
 use Rattle.std.specs.Prelude.{◌≡◌, ℕ, ◌+◌, ◌≤◌, Bool, true, false, List, length, take}
-use Rattle.std.specs.List.{AllByRecursion as All}
+use Rattle.std.specs.List.{AllByRecursion}
 use Rattle.isa.specs.Isa.{Isa}
 use Rattle.isa.specs.Laws.{Lawful}
 use Rattle.model.specs.declared.rows.Fixup.{Fixup}
@@ -34,7 +34,7 @@ UsesInPlace = (i : Isa) → Lawful i → (calls : List Call) → (run i calls).f
 
 -- The set can patch every use that waits, as far as the use's bytes and its label's place go.
 abbrev pub UsesFit : Type 0
-UsesFit = (i : Isa) → Lawful i → (calls : List Call) → (run i calls).finished ≡ false → let s = (run i calls).state in All (λ (f : Fixup). fits i s f ≡ true) s.fresh × All (λ (f : Fixup). fits i s f ≡ true) s.held
+UsesFit = (i : Isa) → Lawful i → (calls : List Call) → (run i calls).finished ≡ false → let s = (run i calls).state in AllByRecursion (λ (f : Fixup). fits i s f ≡ true) s.fresh × AllByRecursion (λ (f : Fixup). fits i s f ≡ true) s.held
 
 -- All branches stand, after every list of calls to a lawful set.
 abbrev pub BranchesStand : Type 0

@@ -1,6 +1,6 @@
 -- The uses that wait to be patched, where they stand in the code.
 use Rattle.std.specs.Prelude.{◌≡◌, ℕ, ◌+◌, ◌%◌, ◌<◌, ◌≤◌, true, ◌⊎◌, List, [], ◌∷◌, length, pos}
-use Rattle.std.specs.List.{AllByRecursion as All}
+use Rattle.std.specs.List.{AllByRecursion}
 use Rattle.isa.specs.Isa.{Isa, bytes_at}
 use Rattle.model.specs.declared.rows.Fixup.{Fixup}
 
@@ -24,17 +24,17 @@ Apart i f g = EndsBefore i f g ⊎ EndsBefore i g f
 -- each ends before the next begins
 abbrev pub InOrder : Isa → List Fixup → Type 0
 InOrder i [] = Unit {0}
-InOrder i (f ∷ fs) = All (EndsBefore i f) fs × InOrder i fs
+InOrder i (f ∷ fs) = AllByRecursion (EndsBefore i f) fs × InOrder i fs
 
 -- no two share a byte
 abbrev pub AllApart : Isa → List Fixup → Type 0
 AllApart i [] = Unit {0}
-AllApart i (f ∷ fs) = All (Apart i f) fs × AllApart i fs
+AllApart i (f ∷ fs) = AllByRecursion (Apart i f) fs × AllApart i fs
 
 -- All are in place and share no byte. The fresh ones are in order, and the held ones come before them.
 pub record Uses (i : Isa) (code : List ℕ) (held fresh : List Fixup) : Type 0 where
-  pub held_in_place : All (InPlace i code) held
-  pub fresh_in_place : All (InPlace i code) fresh
+  pub held_in_place : AllByRecursion (InPlace i code) held
+  pub fresh_in_place : AllByRecursion (InPlace i code) fresh
   pub fresh_in_order : InOrder i fresh
   pub held_apart : AllApart i held
-  pub held_first : All (λ (f : Fixup). All (EndsBefore i f) fresh) held
+  pub held_first : AllByRecursion (λ (f : Fixup). AllByRecursion (EndsBefore i f) fresh) held

@@ -1,6 +1,6 @@
 -- Who replays calls holds the token of the open region, if one is open.
 use Rattle.std.specs.Prelude.{◌≡◌, true, length, is_some, Some, None, Option}
-use Rattle.calls.specs.declared.tokens.OpenPatchRegion.{OpenPatchRegion}
+use Rattle.table_calls.specs.declared.tokens.OpenPatchRegion.{OpenPatchRegion}
 use Rattle.model.specs.State.{State}
 
 abbrev pub Held : Option OpenPatchRegion → State → Type 0

@@ -4,7 +4,7 @@ ghost use Rattle.model.specs.Calls.{put_data, align_to};
 ghost use Rattle.buffer.specs.View.{view};
 
 use super::MachBuffer;
-use calls::data::{align_to, put_data};
+use table_calls::data::{align_to, put_data};
 use isa::InstructionSet;
 use model::Refusal;
 

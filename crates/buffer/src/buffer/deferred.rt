@@ -4,7 +4,7 @@ ghost use Rattle.model.specs.Calls.{defer_trap, register_constant, get_label_for
 ghost use Rattle.buffer.specs.View.{view};
 
 use super::MachBuffer;
-use calls::deferred::{defer_trap, get_label_for_constant};
+use table_calls::deferred::{defer_trap, get_label_for_constant};
 use isa::InstructionSet;
 use model::Refusal;
 use model::rows::{Constant, UNKNOWN};

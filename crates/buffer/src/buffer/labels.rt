@@ -5,12 +5,12 @@ ghost use Rattle.model.specs.State.{empty};
 ghost use Rattle.buffer.specs.View.{view};
 
 use super::MachBuffer;
-use calls::labels::get_label;
+use table_calls::labels::get_label;
 use isa::InstructionSet;
 use model::Refusal;
 use model::rows::UNKNOWN;
-use questions::cur_offset;
-use simplify::rounds::{optimize_branches, simplify};
+use table_questions::cur_offset;
+use simplification::rounds::{optimize_branches, simplify};
 use std::alloc::{AllocError, Global};
 use tables::tables::Tables;
 

@@ -10,7 +10,7 @@ use super::MachBuffer;
 use isa::InstructionSet;
 use model::Refusal;
 use model::rows::{PlacedConstant, Trap, UNKNOWN};
-use questions::{
+use table_questions::{
     code, cur_offset, held_deadline, labels_len, placed_constants, requested_room,
     resolve_label_offset, traps, waiting_len,
 };

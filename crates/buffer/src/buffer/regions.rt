@@ -1,12 +1,12 @@
 // Regions that are filled after finishing.
 ghost use Rattle.std.specs.Prelude.{◌≡◌};
 ghost use Rattle.model.specs.Calls.{start_patchable, end_patchable};
-ghost use Rattle.calls.specs.Regions.{opened_number, closed_place, HandedBack};
+ghost use Rattle.table_calls.specs.Regions.{opened_number, closed_place, HandedBack};
 ghost use Rattle.buffer.specs.View.{view};
 
 use super::MachBuffer;
-use calls::regions::{end_patchable, start_patchable};
-use calls::tokens::{OpenPatchRegion, PatchRegion};
+use table_calls::regions::{end_patchable, start_patchable};
+use table_calls::tokens::{OpenPatchRegion, PatchRegion};
 use isa::InstructionSet;
 use model::Refusal;
 

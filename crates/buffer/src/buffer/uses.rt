@@ -10,7 +10,7 @@ use super::MachBuffer;
 use isa::{InstructionSet, Role, is_inversion};
 use model::Refusal;
 use model::rows::Fixup;
-use questions::cur_offset;
+use table_questions::cur_offset;
 use tables::capacities::{MAX_BRANCHES, MAX_CODE, MAX_FIXUPS};
 
 // Whether bytes can be a use of a kind: as many as it patches, and reading 0 where it adds.

@@ -1,7 +1,7 @@
 use Rattle.std.proofs.Common.{◌≡◌, ℕ, true, List, length, is_some, Some, None, Option, sym, refl, ap, ◌∙◌, subst, rules}
 use Rattle.model.specs.declared.rows.Region.{Region}
 use Rattle.model.specs.State.{State}
-use Rattle.calls.specs.declared.tokens.OpenPatchRegion.{OpenPatchRegion}
+use Rattle.table_calls.specs.declared.tokens.OpenPatchRegion.{OpenPatchRegion}
 use Rattle.buffer.specs.View.{view}
 use Rattle.model.specs.Steps as model
 use Rattle.replay.specs.Calls.{call_of, is_plain}

@@ -1,7 +1,7 @@
 // Regions that are filled after finishing.
 ghost use Rattle.std.specs.Prelude.{◌≡◌};
 ghost use Rattle.model.specs.Calls.{start_patchable, end_patchable};
-ghost use Rattle.calls.specs.Regions.{opened_number, closed_place, HandedBack};
+ghost use Rattle.table_calls.specs.Regions.{opened_number, closed_place, HandedBack};
 ghost use Rattle.tables.specs.View.{view};
 
 use crate::tokens::{OpenPatchRegion, PatchRegion};

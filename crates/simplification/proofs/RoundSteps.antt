@@ -8,13 +8,13 @@ use Rattle.model.specs.declared.rows.Label.{Label}
 use Rattle.model.specs.Labels.{standing, unbound}
 use Rattle.model.specs.State.{State, unknown, cur_offset}
 use Rattle.model.specs.Simplify.{Round, last_branch, takes_branch, round, rounds}
-use Rattle.simplify.specs.declared.rules.Rule.{Rule}
-use Rattle.simplify.specs.declared.rules.Rule.TheVariants.{CutToNext}
-use Rattle.simplify.specs.declared.rules.Outcome.{Outcome}
-use Rattle.simplify.specs.declared.rules.Outcome.TheVariants.{Applied, Stopped, Passed}
-use Rattle.simplify.specs.Rules.{fuel, apply, try_on, try_rules, all_rules}
-use Rattle.simplify.proofs.Ranks.{apply_falls, apply_passed, apply_stopped}
-use Rattle.simplify.proofs.Tries.{tried, untaken}
+use Rattle.simplification.specs.declared.rules.Rule.{Rule}
+use Rattle.simplification.specs.declared.rules.Rule.TheVariants.{CutToNext}
+use Rattle.simplification.specs.declared.rules.Outcome.{Outcome}
+use Rattle.simplification.specs.declared.rules.Outcome.TheVariants.{Applied, Stopped, Passed}
+use Rattle.simplification.specs.Rules.{fuel, apply, try_on, try_rules, all_rules}
+use Rattle.simplification.proofs.Ranks.{apply_falls, apply_passed, apply_stopped}
+use Rattle.simplification.proofs.Tries.{tried, untaken}
 
 pub takes_yes : (s : State) → 0 < length s.branches → (last_branch s).end ≡ cur_offset s → standing (last_branch s).start s.labels ≤ 100 → takes_branch s ≡ true
 takes_yes s a b c = and_from _ _ (and_from _ _ (lt-ltb 0 _ a) (eq-eqb _ _ b)) (le-leb _ 100 c)

@@ -7,10 +7,10 @@ use Rattle.model.specs.declared.rows.Label.{Label}
 use Rattle.model.specs.Labels.{is_known, moved, aliased, standing, bound_count}
 use Rattle.model.specs.State.{State, unknown, cur_offset}
 use Rattle.model.specs.Simplify.{last_branch, cut, redirect, turn}
-use Rattle.simplify.specs.declared.rules.Rule.{Rule}
-use Rattle.simplify.specs.declared.rules.Rule.TheVariants.{CutToNext, Redirect, CutUnreached, TurnBefore}
-use Rattle.simplify.specs.declared.rules.Outcome.TheVariants.{Applied, Stopped, Passed}
-use Rattle.simplify.specs.Rules.{apply, fuel}
+use Rattle.simplification.specs.declared.rules.Rule.{Rule}
+use Rattle.simplification.specs.declared.rules.Rule.TheVariants.{CutToNext, Redirect, CutUnreached, TurnBefore}
+use Rattle.simplification.specs.declared.rules.Outcome.TheVariants.{Applied, Stopped, Passed}
+use Rattle.simplification.specs.Rules.{apply, fuel}
 
 abbrev one : Bool → ℕ
 one b = cond b 1 0

@@ -1,8 +1,8 @@
 // What is done to the last standing branch.
 ghost use Rattle.std.specs.Prelude.{◌≡◌, ◌<◌, vec_len};
 ghost use Rattle.model.specs.Simplify.{cut, turn};
-ghost use Rattle.simplify.specs.Rules.{apply};
-ghost use Rattle.simplify.specs.declared.rules.Rule.TheVariants.{CutToNext, Redirect, CutUnreached, TurnBefore};
+ghost use Rattle.simplification.specs.Rules.{apply};
+ghost use Rattle.simplification.specs.declared.rules.Rule.TheVariants.{CutToNext, Redirect, CutUnreached, TurnBefore};
 ghost use Rattle.tables.specs.View.{view};
 
 use crate::rules::{Outcome, Rule};

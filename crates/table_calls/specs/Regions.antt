@@ -2,8 +2,8 @@
 use Rattle.std.specs.Prelude.{◌≡◌, ℕ, Ok, Err, Result}
 use Rattle.model.specs.declared.rows.Region.{Region}
 use Rattle.model.specs.declared.refusals.Refusal.{Refusal}
-use Rattle.calls.specs.declared.tokens.OpenPatchRegion.{OpenPatchRegion}
-use Rattle.calls.specs.declared.tokens.PatchRegion.{PatchRegion}
+use Rattle.table_calls.specs.declared.tokens.OpenPatchRegion.{OpenPatchRegion}
+use Rattle.table_calls.specs.declared.tokens.PatchRegion.{PatchRegion}
 
 -- the number of the region opened
 abbrev pub opened_number : Result OpenPatchRegion Refusal → Result ℕ Refusal

@@ -5,13 +5,13 @@ use Rattle.std.proofs.lemmas.Bool.{eq-eqb, ne_eqb}
 use Rattle.model.specs.declared.rows.Branch.{Branch}
 use Rattle.model.specs.declared.rows.Label.{Label}
 use Rattle.model.specs.Simplify.{last_branch}
-use Rattle.simplify.specs.declared.rules.Rule.TheVariants.{CutToNext}
-use Rattle.simplify.specs.Rules.{fuel, try_rules, all_rules}
+use Rattle.simplification.specs.declared.rules.Rule.TheVariants.{CutToNext}
+use Rattle.simplification.specs.Rules.{fuel, try_rules, all_rules}
 use Rattle.tables.specs.View.{view}
-use Rattle.simplify.proofs.RoundSteps.{takes_yes, takes_none, takes_apart, takes_crowded, over_none, over_tried, again, step_applied, step_stopped, step_passed, stood_all, stood_some, passed_same, stopped_same, applied_falls}
-use Rattle.simplify.proofs.rounds.run_rounds.Given as given
-use Rattle.simplify.proofs.rounds.run_rounds.Goals as goal
-use Rattle.simplify.proofs.rounds.run_rounds.Goals.{then-label-branch+else-stood-gt-MAX_LABELS_AT_BRANCH, else-label-branch}
+use Rattle.simplification.proofs.RoundSteps.{takes_yes, takes_none, takes_apart, takes_crowded, over_none, over_tried, again, step_applied, step_stopped, step_passed, stood_all, stood_some, passed_same, stopped_same, applied_falls}
+use Rattle.simplification.proofs.rounds.run_rounds.Given as given
+use Rattle.simplification.proofs.rounds.run_rounds.Goals as goal
+use Rattle.simplification.proofs.rounds.run_rounds.Goals.{then-label-branch+else-stood-gt-MAX_LABELS_AT_BRANCH, else-label-branch}
 
 abbrev no_label : Label
 no_label = record { offset = 0; alias = 0; reserved = false }

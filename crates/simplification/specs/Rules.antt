@@ -3,10 +3,10 @@ use Rattle.std.specs.Prelude.{ℕ, ◌+◌, ◌-◌, Bool, true, false, cond, no
 use Rattle.model.specs.Labels.{bound_count}
 use Rattle.model.specs.State.{State, cur_offset}
 use Rattle.model.specs.Simplify.{last_branch, branch_before, target_of, adjoins, has_labels, cut, redirect, turn}
-use Rattle.simplify.specs.declared.rules.Rule.{Rule}
-use Rattle.simplify.specs.declared.rules.Rule.TheVariants.{CutToNext, Redirect, CutUnreached, TurnBefore}
-use Rattle.simplify.specs.declared.rules.Outcome.{Outcome}
-use Rattle.simplify.specs.declared.rules.Outcome.TheVariants.{Applied, Stopped, Passed}
+use Rattle.simplification.specs.declared.rules.Rule.{Rule}
+use Rattle.simplification.specs.declared.rules.Rule.TheVariants.{CutToNext, Redirect, CutUnreached, TurnBefore}
+use Rattle.simplification.specs.declared.rules.Outcome.{Outcome}
+use Rattle.simplification.specs.declared.rules.Outcome.TheVariants.{Applied, Stopped, Passed}
 
 abbrev pub apply : Rule → State → Outcome × State
 apply CutToNext s = cond (target_of s (last_branch s) == cur_offset s) (Applied, cut s) (Passed, s)
