@@ -1,5 +1,5 @@
 -- A branch once its target was checked.
-use Rattle.std.proofs.Common.{◌≡◌, ℕ, Bool, List, Ok, Err, Result, arith}
+use Rattle.std.proofs.Common.{◌≡◌, ℕ, Bool, List, Ok, Err, arith}
 use Rattle.std.proofs.lemmas.Bool.Decides.{nat_tests}
 use Rattle.isa.specs.Isa.{Isa}
 use Rattle.model.specs.declared.refusals.Refusal.{Refusal}

@@ -10,7 +10,7 @@
 //!
 //! `buffer::MachBuffer` is an instruction set and tables. `specs/View` says which tables of `model` a buffer stands for,
 //! and every public call's contract is that its answer and the tables after it are those of the call's definition there.
-//! What asks no set is done below, by the crates `questions`, `calls` and `simplify`; here the set is asked.
+//! What asks no set is done below, by the crates `table_questions`, `table_calls` and `simplification`; here the set is asked.
 #![tactic(auto)]
 
 pub mod buffer;

@@ -1,5 +1,5 @@
 -- One call more, in a list of calls that finishes nothing.
-use Rattle.std.proofs.Common.{◌≡◌, ℕ, ◌+◌, ◌-◌, ◌<◌, ◌≤◌, Bool, true, false, cond, List, [], ◌∷◌, ◌++◌, map, reverse, length, get_or, take, Ok, Err, Result, sym, refl, ap, ◌∙◌, arith}
+use Rattle.std.proofs.Common.{◌≡◌, ℕ, ◌+◌, ◌<◌, false, cond, List, [], ◌∷◌, ◌++◌, map, reverse, length, get_or, take, Ok, Err, Result, sym, refl, ap, ◌∙◌}
 use mathlib.Core.List.{reverse-cons}
 use Rattle.std.proofs.lemmas.List.{take_more, map-append}
 use Rattle.isa.specs.Isa.{Isa}
@@ -7,7 +7,7 @@ use Rattle.model.specs.declared.refusals.Refusal.{Refusal}
 use Rattle.model.specs.Runs.{Run, run, run_from, begun, next, ends}
 use Rattle.model.specs.State.{State}
 use Rattle.model.specs.Steps as model
-use Rattle.model.specs.Tallies.{Tally, tally_of, if_granted, tally}
+use Rattle.model.specs.Tallies.{tally_of, if_granted, tally}
 use Rattle.model.specs.Calls.{use_label_at_offset, add_uncond_branch, add_cond_branch}
 use Rattle.replay.specs.declared.calls.Answer.{Answer}
 use Rattle.replay.specs.declared.calls.Answer.TheVariants.{Granted, Number, Closed, YesNo, Refused}

@@ -1,5 +1,5 @@
 -- Only opening and closing a region touch the regions.
-use Rattle.std.proofs.Common.{◌≡◌, ℕ, zero, suc, ◌+◌, Bool, true, false, cond, not, ◌&&◌, ◌||◌, leb, List, length, Option, Result, sym, refl, ap, ◌∙◌, arith}
+use Rattle.std.proofs.Common.{◌≡◌, ℕ, zero, suc, ◌+◌, Bool, true, false, cond, not, leb, List, length, Option, Result, refl, ◌∙◌, arith}
 use Rattle.std.proofs.lemmas.Bool.{false≢true}
 use Rattle.isa.specs.Isa.{Isa}
 use Rattle.isa.specs.Patches.{inversion}
@@ -7,7 +7,7 @@ use Rattle.model.specs.declared.refusals.Refusal.{Refusal}
 use Rattle.model.specs.declared.rows.Region.{Region}
 use Rattle.model.specs.Labels.{bound_count}
 use Rattle.model.specs.State.{State, is_open}
-use Rattle.model.specs.Simplify.{Round, round, rounds, all_rounds, forgotten, simplified}
+use Rattle.model.specs.Simplify.{round, rounds, all_rounds, forgotten, simplified}
 use Rattle.model.specs.Calls.{bind, no_label, misaligned, is_jump, add_branch}
 use Rattle.model.specs.Full.{no_room, fixups_full, branches_full}
 use Rattle.model.specs.Steps as model

@@ -1,7 +1,5 @@
 -- The calls and answers of the code, as the definitions have them.
-use Rattle.std.specs.Prelude.{ℕ, Bool, true, false, List, Ok, Err, Result}
-use Rattle.model.specs.declared.refusals.Refusal.{Refusal}
-use Rattle.model.specs.declared.rows.Region.{Region}
+use Rattle.std.specs.Prelude.{Bool, true, false}
 use Rattle.model.specs.Steps as model
 use Rattle.replay.specs.declared.calls.Answer.{Answer}
 use Rattle.replay.specs.declared.calls.Answer.TheVariants.{Granted, Number, Closed, YesNo, Refused}

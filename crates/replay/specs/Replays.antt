@@ -3,7 +3,7 @@ use Rattle.std.specs.Prelude.{◌≡◌, ℕ, List, map, reverse, take, vec_item
 use Rattle.isa.specs.Isa.{Isa}
 use Rattle.buffer.specs.View.{view}
 use Rattle.model.specs.Laws.{Accounted}
-use Rattle.model.specs.Runs.{Run, run}
+use Rattle.model.specs.Runs.{run}
 use Rattle.model.specs.Steps as model
 use Rattle.model.specs.Tallies.{Tally}
 use Rattle.replay.specs.Calls.{answer_of}

@@ -4,9 +4,9 @@ ghost use Rattle.model.specs.Calls.{put_data, align_to};
 ghost use Rattle.buffer.specs.View.{view};
 
 use super::MachBuffer;
-use table_calls::data::{align_to, put_data};
 use isa::InstructionSet;
 use model::Refusal;
+use table_calls::data::{align_to, put_data};
 
 impl<S: InstructionSet + Drop> MachBuffer<S> {
     /// Appends bytes, which may trap if the trap code is not 0.

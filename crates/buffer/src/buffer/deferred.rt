@@ -4,11 +4,11 @@ ghost use Rattle.model.specs.Calls.{defer_trap, register_constant, get_label_for
 ghost use Rattle.buffer.specs.View.{view};
 
 use super::MachBuffer;
-use table_calls::deferred::{defer_trap, get_label_for_constant};
 use isa::InstructionSet;
 use model::Refusal;
 use model::rows::{Constant, UNKNOWN};
 use slices::bytes::is_alignment_number;
+use table_calls::deferred::{defer_trap, get_label_for_constant};
 use tables::capacities::MAX_CONSTANTS;
 
 impl<S: InstructionSet + Drop> MachBuffer<S> {

@@ -5,13 +5,13 @@ ghost use Rattle.model.specs.State.{empty};
 ghost use Rattle.buffer.specs.View.{view};
 
 use super::MachBuffer;
-use table_calls::labels::get_label;
 use isa::InstructionSet;
 use model::Refusal;
 use model::rows::UNKNOWN;
-use table_questions::cur_offset;
 use simplification::rounds::{optimize_branches, simplify};
 use std::alloc::{AllocError, Global};
+use table_calls::labels::get_label;
+use table_questions::cur_offset;
 use tables::tables::Tables;
 
 impl<S: InstructionSet + Drop> MachBuffer<S> {

@@ -5,10 +5,10 @@ ghost use Rattle.table_calls.specs.Regions.{opened_number, closed_place, HandedB
 ghost use Rattle.buffer.specs.View.{view};
 
 use super::MachBuffer;
-use table_calls::regions::{end_patchable, start_patchable};
-use table_calls::tokens::{OpenPatchRegion, PatchRegion};
 use isa::InstructionSet;
 use model::Refusal;
+use table_calls::regions::{end_patchable, start_patchable};
+use table_calls::tokens::{OpenPatchRegion, PatchRegion};
 
 impl<S: InstructionSet + Drop> MachBuffer<S> {
     /// Opens a region at the current offset.

@@ -1,10 +1,10 @@
-use Rattle.std.proofs.Common.{◌≡◌, ℕ, true, List, length, is_some, Some, None, Option, sym, refl, ap, ◌∙◌, subst, rules}
+use Rattle.std.proofs.Common.{◌≡◌, ℕ, true, List, length, is_some, Some, None, Option, sym, ap, ◌∙◌, rules}
 use Rattle.model.specs.declared.rows.Region.{Region}
 use Rattle.model.specs.State.{State}
 use Rattle.table_calls.specs.declared.tokens.OpenPatchRegion.{OpenPatchRegion}
 use Rattle.buffer.specs.View.{view}
 use Rattle.model.specs.Steps as model
-use Rattle.replay.specs.Calls.{call_of, is_plain}
+use Rattle.replay.specs.Calls.{is_plain}
 use Rattle.replay.specs.Tokens.{Held}
 use Rattle.replay.proofs.Plain.{regions_of, keeps}
 use Rattle.replay.proofs.replay.make_any.Goals as goal

@@ -1,18 +1,15 @@
-use Rattle.std.proofs.Common.{◌≡◌, ℕ, ◌+◌, ◌-◌, ◌≤◌, Bool, true, false, cond, List, [], ◌∷◌, ◌++◌, map, reverse, length, get_or, take, vec_items, vec_len, vec_capacity, sym, refl, ap, ◌∙◌, subst, arith, rules}
+use Rattle.std.proofs.Common.{◌≡◌, ℕ, ◌+◌, ◌≤◌, Bool, cond, List, map, reverse, get_or, take, vec_items, sym, ap, ◌∙◌, arith}
 use Rattle.std.proofs.lemmas.List.{take_all}
 use Rattle.std.proofs.lemmas.Bool.{cond-true, cond-false}
-use Rattle.isa.specs.Isa.{Isa}
 use Rattle.buffer.specs.View.{view}
 use Rattle.model.specs.Fixups.{waiting}
-use Rattle.model.specs.Laws.{Accounted}
-use Rattle.model.specs.Runs.{Run, run, next}
+use Rattle.model.specs.Runs.{Run, run}
 use Rattle.model.specs.State.{State}
 use Rattle.model.specs.Steps as model
 use Rattle.model.specs.Tallies.{Tally}
 use Rattle.model.proofs.Balance.{run_accounted}
 use Rattle.replay.specs.declared.calls.Call.{Call}
 use Rattle.replay.specs.declared.calls.Call.TheVariants.{GetLabel}
-use Rattle.replay.specs.Accepted.{is_accepted}
 use Rattle.replay.specs.Calls.{answer_of, call_of}
 use Rattle.replay.proofs.Follows.{Adds, adds, run_more, answers_more}
 use Rattle.replay.proofs.replay.replay_calls.Given as given

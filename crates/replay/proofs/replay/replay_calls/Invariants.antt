@@ -1,6 +1,6 @@
 use Rattle.std.proofs.Common.{◌≡◌, ◌≤◌, false, map, reverse, length, take, vec_items, vec_len, vec_capacity}
 use Rattle.buffer.specs.View.{view}
-use Rattle.model.specs.Runs.{Run, run}
+use Rattle.model.specs.Runs.{run}
 use Rattle.replay.specs.Calls.{answer_of, call_of}
 use Rattle.replay.specs.Tokens.{Held}
 use Rattle.replay.proofs.replay.replay_calls.Given as goal
