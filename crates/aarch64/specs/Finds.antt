@@ -1,11 +1,11 @@
 -- Each patched branch and each veneer is found where it begins.
-use Rattle.std.specs.Prelude.{◌≡◌, ℕ, ◌+◌, ◌<◌, Bool, true, false, ◌&&◌, T, List, [], ◌∷◌, ◌++◌, length, take, ℤ, pos, ◌+ℤ◌, nat_le, refl}
-use Rattle.std.proofs.Common.{sym, ap, subst, ◌∙◌, append-nil, arith, lit<, take_at, of_z}
+use Rattle.std.specs.Prelude.{◌≡◌, ℕ, ◌<◌, true, T, List, [], ◌∷◌, ◌++◌, length, take, ℤ, pos, ◌+ℤ◌, nat_le, refl}
+use Rattle.std.proofs.Common.{sym, ap, subst, ◌∙◌, append-nil, arith, of_z}
 use Rattle.std.proofs.Math.Seq.{drop-append_seam}
 use Rattle.std.specs.Int.{w32}
 use Rattle.std.proofs.lemmas.Int.{ints}
 use Rattle.std.proofs.lemmas.Bool.Decides.{nat_tests}
-use Rattle.std.proofs.lemmas.Bool.{and_parts, false≢true}
+use Rattle.std.proofs.lemmas.Bool.{false≢true}
 use Rattle.bits.specs.Fields.{get}
 use Rattle.bits.specs.Formats.{reading, rewriting}
 use Rattle.bits.specs.Words.{word, to_bytes}
@@ -13,14 +13,13 @@ use Rattle.isa.specs.declared.jumps.Found.{Found}
 use Rattle.isa.specs.declared.jumps.Found.TheVariants.{Branch, Veneer}
 use Rattle.isa.specs.declared.jumps.Role.{Role}
 use Rattle.isa.specs.declared.jumps.Role.TheVariants.{Unconditional}
-use Rattle.isa.specs.Isa.{Isa, Patchable, bytes_at, patched_at}
+use Rattle.isa.specs.Isa.{Patchable, bytes_at, patched_at}
 use Rattle.isa.specs.Laws.{Leads}
 use Rattle.isa.specs.Roles.{is_branch}
 use Rattle.isa.proofs.Finding.{holds, one_size}
 use Rattle.isa.proofs.Formatted.{reads_patched, finds_branch as formatted-branch}
 use Rattle.aarch64.specs.Fields.{format}
 use Rattle.aarch64.specs.Meaning.{aarch64, jump_at_head, long_jump, long_veneer, short_veneer}
-use Rattle.aarch64.specs.Roles.{role_of}
 use Rattle.aarch64.specs.KindTables.{below_6, formatted}
 use Rattle.aarch64.specs.RoleLaws.{role_outside, role_once}
 

@@ -1,7 +1,7 @@
 -- Turning a conditional round.
-use Rattle.std.specs.Prelude.{◌≡◌, ℕ, ◌<◌, Bool, true, false, cond, not, ◌&&◌, T, List, [], ◌∷◌, ◌==◌, ◌≢◌, nat_eq, refl}
+use Rattle.std.specs.Prelude.{◌≡◌, ℕ, ◌<◌, Bool, true, false, not, T, List, ◌==◌, ◌≢◌, nat_eq, refl}
 use Rattle.std.proofs.Common.{sym, ap, ◌∙◌, inl, inr, arith, lit<}
-use Rattle.std.proofs.lemmas.Bool.{eqb-true, and_parts, cases_Bool, cond-true, cond-false, false≢true}
+use Rattle.std.proofs.lemmas.Bool.{eqb-true, and_parts, cases_Bool, cond-false, false≢true}
 use Rattle.bits.specs.Fields.{Piece, get, put, flip, piece, scatter}
 use Rattle.bits.specs.Words.{word, to_bytes}
 use Rattle.bits.proofs.LittleEndian.{word_fits, word-to_bytes}
@@ -12,10 +12,8 @@ use Rattle.isa.specs.declared.jumps.Condition.{Condition}
 use Rattle.isa.specs.declared.jumps.Family.TheVariants.{Flags, Zero}
 use Rattle.isa.specs.declared.jumps.Role.{Role}
 use Rattle.isa.specs.declared.jumps.Role.TheVariants.{Conditional}
-use Rattle.isa.specs.Isa.{Isa}
 use Rattle.isa.specs.Roles.{family_index}
 use Rattle.isa.proofs.Conditionals.{passed, no_conditional, never_conditional}
-use Rattle.aarch64.specs.Fields.{format}
 use Rattle.aarch64.specs.Meaning.{aarch64, turned, rest_word}
 use Rattle.aarch64.specs.Roles.{condition, is_kept, is_flags, sense_bit, test_role, compare_role, flags_role, branch19_role, role_of}
 use Rattle.aarch64.specs.KindTables.{below_6}

@@ -1,11 +1,11 @@
 -- The tables of the six kinds, kind by kind.
 use Rattle.std.specs.Prelude.{◌≡◌, ℕ, zero, suc, ◌^◌, ◌<◌, true, T, List, ℤ, pos, refl}
-use Rattle.std.proofs.Common.{sym, ◌∙◌, arith}
+use Rattle.std.proofs.Common.{arith}
 use lib.Dec.{lit<, lit≤}
 use Rattle.std.specs.Int.Signed.{mag}
 use Rattle.bits.specs.Formats.{width}
 use Rattle.bits.proofs.FormatLaws.{top, good, Fresh}
-use Rattle.isa.specs.Isa.{Isa, Reaches}
+use Rattle.isa.specs.Isa.{Reaches}
 use Rattle.isa.specs.Laws.{KindBounds}
 use Rattle.isa.proofs.Formatted.{Formatted}
 use Rattle.isa.proofs.Ranges.{within}

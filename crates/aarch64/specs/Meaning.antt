@@ -1,5 +1,5 @@
 -- What AArch64 means to a code buffer.
-use Rattle.std.specs.Prelude.{ℕ, Bool, cond, ◌&&◌, List, [], ◌∷◌, ◌++◌, length, take, drop, ℤ, pos, ◌+ℤ◌, ◌==◌, nat_le, nat_lt, slice_index}
+use Rattle.std.specs.Prelude.{ℕ, Bool, cond, ◌&&◌, List, [], ◌∷◌, ◌++◌, length, take, drop, pos, ◌+ℤ◌, ◌==◌, nat_le, nat_lt, slice_index}
 use Rattle.bits.specs.Fields.{put, flip}
 use Rattle.bits.specs.Formats.{reading, patching, clearing, clear_field}
 use Rattle.bits.specs.Words.{word, to_bytes}

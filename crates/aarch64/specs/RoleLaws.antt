@@ -1,5 +1,5 @@
 -- The roles: they ignore the field, and one kind at most gives one.
-use Rattle.std.specs.Prelude.{◌≡◌, ℕ, zero, suc, ◌<◌, Bool, true, false, cond, not, ◌&&◌, List, [], ◌∷◌, ◌==◌, refl}
+use Rattle.std.specs.Prelude.{◌≡◌, ℕ, zero, suc, ◌<◌, true, cond, List, [], ◌∷◌, ◌==◌, refl}
 use Rattle.std.proofs.Common.{sym, ap, ◌∙◌, inl, inr, arith, lit≤}
 use Rattle.std.proofs.lemmas.Bool.{eqb-true, ne_eqb, and_parts, cases_Bool, false≢true}
 use Rattle.bits.specs.Fields.{Piece, get, piece}
@@ -7,7 +7,6 @@ use Rattle.bits.specs.Words.{word}
 use Rattle.bits.proofs.FormatLaws.{same_outside}
 use Rattle.bits.proofs.OneField.{get-get}
 use Rattle.isa.specs.declared.jumps.Role.TheVariants.{NoBranch}
-use Rattle.isa.specs.Isa.{Isa}
 use Rattle.isa.specs.Roles.{is_branch}
 use Rattle.isa.proofs.Conditionals.{tested}
 use Rattle.aarch64.specs.Meaning.{aarch64}

@@ -2,7 +2,7 @@
 use Rattle.std.proofs.Common.{◌≡◌, ℕ, zero, suc, ◌<◌, ◌≤◌, max, Bool, true, false, ◌⊎◌, List, [], ◌∷◌, ◌++◌, drop, sym, refl, ap, ◌∙◌, subst, inl, inr, append_assoc, append-nil, arith}
 use Rattle.std.specs.List.{AllByRecursion}
 use Rattle.std.proofs.ByRecursion.{All-push}
-use Rattle.std.proofs.lemmas.Bool.{both_ways, cases_lt, cond_both, or_left, or_right}
+use Rattle.std.proofs.lemmas.Bool.{both_ways, cases_lt, cond_both, or_left}
 use Rattle.isa.specs.Isa.{Isa}
 use Rattle.isa.specs.Laws.{Lawful}
 use Rattle.model.specs.declared.rows.Label.{Label}

@@ -8,7 +8,7 @@ use Rattle.isa.specs.Isa.{Isa, Patchable}
 use Rattle.isa.specs.Laws.{Lawful}
 use Rattle.model.specs.declared.rows.Fixup.{Fixup}
 use Rattle.model.specs.State.{State, cur_offset}
-use Rattle.model.specs.Code.{zeros, aligned, padded_to}
+use Rattle.model.specs.Code.{zeros, padded_to}
 use Rattle.model.specs.Labels.{root, offset_of}
 use Rattle.model.specs.Fates.{patch_fixup, own_fixup}
 use Rattle.model.specs.Uses.{InPlace, EndsBefore, Apart, Uses}

@@ -1,6 +1,6 @@
 -- What holds of every layout that grows: a free label is not yet placed, no use is fixed beyond the last island, and the layout
 -- follows the draft.
-use Rattle.std.proofs.Common.{◌≡◌, ℕ, suc, ◌<◌, true, ◌⊎◌, List, [], ◌∷◌, sym, refl, ap, ◌∙◌, subst, inl, inr, arith}
+use Rattle.std.proofs.Common.{◌≡◌, ℕ, suc, ◌<◌, true, ◌⊎◌, List, [], sym, refl, ap, ◌∙◌, subst, inl, inr, arith}
 use native.Mathlib.Decide.{dec_lt}
 use Rattle.readings.specs.Draft.{Truth, Draft, item, label, at}
 use Rattle.readings.specs.Layout.{waits, jump, Cell, cell, total, Each, Entry, free, stands, alias, Labels, Places, Shifts, Renames}

@@ -1,5 +1,5 @@
 -- The draft: what the calls said, item by item, and a walk through it under one truth for every condition.
-use Rattle.std.specs.Prelude.{◌≡◌, ℕ, zero, suc, Bool, true, false, cond, ◌||◌, List, [], ◌∷◌, ◌==◌, slice_index_or}
+use Rattle.std.specs.Prelude.{ℕ, zero, suc, Bool, true, false, cond, ◌||◌, List, [], ◌∷◌, ◌==◌, slice_index_or}
 use Rattle.std.specs.Bool.{beq}
 use Rattle.isa.specs.declared.jumps.Condition.{Condition}
 use Rattle.isa.specs.declared.jumps.Role.{Role}

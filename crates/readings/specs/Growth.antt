@@ -1,6 +1,6 @@
 -- How a layout and its label table come about, call by call, with what each step asks of them. No truth of a condition is in
 -- it.
-use Rattle.std.specs.Prelude.{◌≡◌, ℕ, zero, suc, ◌+◌, ◌<◌, ◌≤◌, Bool, true, false, not, List, [], ◌∷◌}
+use Rattle.std.specs.Prelude.{◌≡◌, ℕ, suc, ◌+◌, ◌≤◌, Bool, true, false, not, List, [], ◌∷◌}
 use Rattle.isa.specs.declared.jumps.Condition.{Condition}
 use Rattle.isa.specs.declared.jumps.Role.{Role}
 use Rattle.isa.specs.declared.jumps.Role.TheVariants.{Unconditional, Conditional}

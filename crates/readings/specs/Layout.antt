@@ -1,6 +1,6 @@
 -- The layout of the code: its cells, newest first, each with the position of the draft that it stands for. It exists in proofs
 -- only.
-use Rattle.std.specs.Prelude.{◌≡◌, ℕ, zero, suc, ◌+◌, ◌<◌, ◌≤◌, ◌⊎◌, List, [], ◌∷◌, ◌≢◌}
+use Rattle.std.specs.Prelude.{◌≡◌, ℕ, ◌+◌, ◌<◌, ◌⊎◌, List, [], ◌∷◌, ◌≢◌}
 use Rattle.isa.specs.declared.jumps.Role.{Role}
 use Rattle.readings.specs.Draft.{Position}
 

@@ -1,5 +1,5 @@
 -- A layout that has grown for all items, and the code in which it is written: draft and code agree.
-use Rattle.std.specs.Prelude.{◌≡◌, ℕ, ◌+◌, ◌≤◌, true, ◌↔◌, List, length, ℤ, Some, Option, ◌≢◌}
+use Rattle.std.specs.Prelude.{◌≡◌, ℕ, ◌≤◌, true, ◌↔◌, List, length, ℤ, Some, Option, ◌≢◌}
 use Rattle.std.proofs.Math.IntN.{sub_ℕ}
 use Rattle.isa.specs.declared.jumps.Found.{Found}
 use Rattle.isa.specs.declared.jumps.Found.TheVariants.{Branch}

@@ -1,26 +1,19 @@
 -- Each patched branch and each veneer is found where it begins.
-use Rattle.std.specs.Prelude.{◌≡◌, ℕ, ◌+◌, ◌<◌, Bool, true, false, ◌&&◌, T, leb, List, [], ◌∷◌, ◌++◌, length, take, drop, ℤ, pos, ◌+ℤ◌, refl}
-use Rattle.std.proofs.Common.{sym, ap, subst, ◌∙◌, append-nil, arith, lit<, take_at, of_z}
-use Rattle.std.proofs.Math.Seq.{drop-append_seam}
-use Rattle.std.specs.Int.{w32}
+use Rattle.std.specs.Prelude.{◌≡◌, ℕ, ◌<◌, true, T, List, [], ◌∷◌, ◌++◌, length, ℤ, pos, ◌+ℤ◌, refl}
+use Rattle.std.proofs.Common.{sym, ap, subst, ◌∙◌, append-nil, arith}
 use Rattle.std.proofs.lemmas.Int.{ints}
-use Rattle.std.proofs.lemmas.Bool.Decides.{nat_tests}
-use Rattle.std.proofs.lemmas.Bool.{and_parts, false≢true}
 use Rattle.bits.specs.Fields.{get}
-use Rattle.bits.specs.Formats.{reading, rewriting}
 use Rattle.bits.specs.Words.{word, to_bytes}
 use Rattle.isa.specs.declared.jumps.Found.{Found}
 use Rattle.isa.specs.declared.jumps.Found.TheVariants.{Branch, NoJump}
 use Rattle.isa.specs.declared.jumps.Role.{Role}
 use Rattle.isa.specs.declared.jumps.Role.TheVariants.{Unconditional}
-use Rattle.isa.specs.Isa.{Isa, Patchable, bytes_at, patched_at}
+use Rattle.isa.specs.Isa.{Patchable, bytes_at, patched_at}
 use Rattle.isa.specs.Laws.{Leads}
 use Rattle.isa.specs.Roles.{is_branch}
 use Rattle.isa.proofs.Finding.{holds, one_size}
 use Rattle.isa.proofs.Formatted.{finds_branch as formatted-branch}
-use Rattle.riscv.specs.Fields.{format}
 use Rattle.riscv.specs.Meaning.{riscv}
-use Rattle.riscv.specs.Roles.{role_of}
 use Rattle.riscv.specs.KindTables.{below_2, formatted}
 use Rattle.riscv.specs.RoleLaws.{role_outside, role_once}
 

@@ -1,8 +1,8 @@
 -- Turning a conditional round.
-use Rattle.std.specs.Prelude.{◌≡◌, ℕ, ◌<◌, Bool, not, List, refl}
+use Rattle.std.specs.Prelude.{◌≡◌, ℕ, ◌<◌, Bool, not, List}
 use Rattle.std.proofs.Common.{sym, ap, ◌∙◌}
 use lib.Dec.{lit<}
-use Rattle.bits.specs.Fields.{flip, put, scatter}
+use Rattle.bits.specs.Fields.{flip, scatter}
 use Rattle.bits.specs.Words.{word, to_bytes}
 use Rattle.bits.proofs.LittleEndian.{word_fits, word-to_bytes}
 use Rattle.bits.proofs.OneField.{put-fits}
@@ -10,10 +10,9 @@ use Rattle.bits.proofs.Scattered.{scatter-fits}
 use Rattle.bits.proofs.Senses.{get-flip, sense_flip, word-flip, reading-flip, rest_flip, rest_same}
 use Rattle.isa.specs.declared.jumps.Condition.{Condition}
 use Rattle.isa.specs.declared.jumps.Role.TheVariants.{Conditional}
-use Rattle.isa.specs.Isa.{Isa}
 use Rattle.isa.proofs.Conditionals.{passed, no_conditional}
 use Rattle.riscv.specs.Meaning.{riscv, turned, rest_word}
-use Rattle.riscv.specs.Roles.{branch_role, role_of}
+use Rattle.riscv.specs.Roles.{branch_role}
 use Rattle.riscv.specs.KindTables.{below_2}
 use Rattle.riscv.specs.RoleLaws.{b_type}
 

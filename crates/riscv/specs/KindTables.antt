@@ -1,10 +1,10 @@
 -- The tables of the two kinds, kind by kind.
 use Rattle.std.specs.Prelude.{◌≡◌, ℕ, zero, suc, ◌^◌, ◌<◌, true, T, List, ℤ, pos, refl}
-use Rattle.std.proofs.Common.{arith, lit<, lit≤}
+use Rattle.std.proofs.Common.{arith, lit≤}
 use Rattle.std.specs.Int.Signed.{mag}
 use Rattle.bits.specs.Formats.{width}
 use Rattle.bits.proofs.FormatLaws.{top, good, Fresh}
-use Rattle.isa.specs.Isa.{Isa, Reaches}
+use Rattle.isa.specs.Isa.{Reaches}
 use Rattle.isa.specs.Laws.{KindBounds}
 use Rattle.isa.proofs.Formatted.{Formatted}
 use Rattle.isa.proofs.Ranges.{within}

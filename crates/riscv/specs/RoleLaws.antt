@@ -1,12 +1,11 @@
 -- The roles: they ignore the field, and one kind at most gives one.
-use Rattle.std.specs.Prelude.{◌≡◌, ℕ, zero, suc, ◌<◌, true, cond, not, List, [], ◌∷◌, ◌==◌, refl}
+use Rattle.std.specs.Prelude.{◌≡◌, ℕ, zero, suc, ◌<◌, true, cond, not, List, [], ◌∷◌, ◌==◌}
 use Rattle.std.proofs.Common.{sym, ap, ◌∙◌, arith}
 use Rattle.std.proofs.lemmas.Bool.{eqb-true, ne_eqb, and_parts, false≢true}
 use Rattle.bits.specs.Fields.{Piece, get, piece}
 use Rattle.bits.specs.Words.{word}
 use Rattle.bits.proofs.FormatLaws.{same_outside}
 use Rattle.isa.specs.declared.jumps.Role.TheVariants.{NoBranch}
-use Rattle.isa.specs.Isa.{Isa}
 use Rattle.isa.specs.Roles.{is_branch}
 use Rattle.isa.proofs.Conditionals.{tested}
 use Rattle.riscv.specs.Meaning.{riscv}

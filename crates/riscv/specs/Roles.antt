@@ -1,5 +1,5 @@
 -- The branches of RISC-V, by the bits of their words, as the RISC-V Unprivileged ISA manual draws them.
-use Rattle.std.specs.Prelude.{ℕ, Bool, cond, not, ◌&&◌, ◌==◌}
+use Rattle.std.specs.Prelude.{ℕ, cond, not, ◌&&◌, ◌==◌}
 use Rattle.bits.specs.Fields.{get}
 use Rattle.isa.specs.declared.jumps.Condition.{Condition}
 use Rattle.isa.specs.declared.jumps.Family.TheVariants.{Compare}

@@ -1,7 +1,7 @@
 -- Turning a branch round.
-use Rattle.std.specs.Prelude.{◌≡◌, ℕ, ◌<◌, Bool, not, List, refl}
+use Rattle.std.specs.Prelude.{◌≡◌, ℕ, ◌<◌, Bool, not, List}
 use Rattle.std.proofs.Common.{sym, ap, ◌∙◌, lit<, lit≤}
-use Rattle.bits.specs.Fields.{flip, put, scatter}
+use Rattle.bits.specs.Fields.{flip, scatter}
 use Rattle.bits.specs.Words.{word, to_bytes}
 use Rattle.bits.proofs.LittleEndian.{word_fits, word-to_bytes}
 use Rattle.bits.proofs.OneField.{put-fits}
@@ -9,7 +9,6 @@ use Rattle.bits.proofs.Scattered.{scatter-fits}
 use Rattle.bits.proofs.Senses.{get-flip, sense_flip, word-flip, reading-flip, rest_flip, rest_same}
 use Rattle.isa.specs.declared.jumps.Condition.{Condition}
 use Rattle.isa.specs.declared.jumps.Role.TheVariants.{Conditional}
-use Rattle.isa.specs.Isa.{Isa}
 use Rattle.isa.proofs.Conditionals.{passed, no_conditional, never_conditional}
 use Rattle.short_set.specs.Meaning.{short, turned, rest_word}
 use Rattle.short_set.specs.Roles.{role_of}

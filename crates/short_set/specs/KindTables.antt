@@ -7,7 +7,7 @@ use Rattle.bits.specs.Fields.{Piece, get, piece}
 use Rattle.bits.specs.Formats.{width}
 use Rattle.bits.specs.Words.{word}
 use Rattle.bits.proofs.FormatLaws.{top, good, Fresh, same_outside}
-use Rattle.isa.specs.Isa.{Isa, Reaches}
+use Rattle.isa.specs.Isa.{Reaches}
 use Rattle.isa.specs.Laws.{KindBounds}
 use Rattle.isa.specs.Roles.{is_branch}
 use Rattle.isa.proofs.Conditionals.{tested}

@@ -1,11 +1,10 @@
 -- This made-up set keeps the laws of an instruction set.
-use Rattle.std.specs.Prelude.{◌≡◌, ℕ, zero, suc, ◌<◌, ◌≤◌, true, false, refl}
+use Rattle.std.specs.Prelude.{◌≡◌, ℕ, zero, suc, ◌≤◌, true, refl}
 use Rattle.std.proofs.Common.{inr, arith, lit<, lit≤}
 use Rattle.std.proofs.lemmas.Bool.{ltb-false, false≢true}
 use Rattle.bits.specs.Fields.{get}
 use Rattle.bits.specs.Words.{word, signed}
 use Rattle.bits.proofs.LittleEndian.{length-to_bytes, octets_to_bytes, octets}
-use Rattle.isa.specs.Isa.{Isa}
 use Rattle.isa.specs.Laws.{Lawful, VeneerBounds}
 use Rattle.isa.proofs.Formatted.{patched_long, patched_octets, reads_patched, outside_patched, field_only}
 use Rattle.short_set.specs.Meaning.{short, turned}

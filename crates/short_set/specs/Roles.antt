@@ -1,5 +1,5 @@
 -- The branches of this made-up set, by the bits of their words.
-use Rattle.std.specs.Prelude.{ℕ, ◌+◌, Bool, cond, ◌&&◌, ◌==◌, nat_lt}
+use Rattle.std.specs.Prelude.{ℕ, ◌+◌, cond, ◌&&◌, ◌==◌, nat_lt}
 use Rattle.bits.specs.Fields.{get}
 use Rattle.isa.specs.declared.jumps.Condition.{Condition}
 use Rattle.isa.specs.declared.jumps.Family.TheVariants.{Flags}

@@ -1,12 +1,12 @@
 -- Each rule that applies takes a branch away, or makes a label that stands somewhere an alias.
-use Rattle.std.proofs.Common.{◌≡◌, ℕ, suc, ◌+◌, ◌-◌, ◌<◌, ◌≤◌, Bool, true, false, cond, not, eqb, List, [], ◌∷◌, map, length, get_or, take, count_by, sym, refl, ap, ◌∙◌, subst, arith}
+use Rattle.std.proofs.Common.{◌≡◌, ℕ, ◌+◌, ◌-◌, ◌<◌, ◌≤◌, Bool, cond, eqb, List, [], ◌∷◌, map, length, arith}
 use Rattle.std.proofs.lemmas.List.{length-take, length-set}
 use Rattle.std.proofs.lemmas.List.Sums.{sum_by-cons}
 use Rattle.std.proofs.lemmas.Bool.Decides.{nat_tests}
 use Rattle.model.specs.declared.rows.Label.{Label}
 use Rattle.model.specs.Labels.{is_known, moved, aliased, standing, bound_count}
 use Rattle.model.specs.State.{State, unknown, cur_offset}
-use Rattle.model.specs.Simplify.{last_branch, cut, redirect, turn}
+use Rattle.model.specs.Simplify.{last_branch, cut}
 use Rattle.simplification.specs.declared.rules.Rule.{Rule}
 use Rattle.simplification.specs.declared.rules.Rule.TheVariants.{CutToNext, Redirect, CutUnreached, TurnBefore}
 use Rattle.simplification.specs.declared.rules.Outcome.TheVariants.{Applied, Stopped, Passed}

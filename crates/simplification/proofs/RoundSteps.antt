@@ -1,13 +1,13 @@
 -- One round of simplifying, and the end of the rounds.
-use Rattle.std.proofs.Common.{◌≡◌, ℕ, zero, suc, ◌+◌, ◌-◌, ◌<◌, ◌≤◌, Bool, true, false, cond, eqb, ltb, leb, List, [], ◌∷◌, length, get_or, take, drop, sym, refl, ap, ◌∙◌, subst, arith}
+use Rattle.std.proofs.Common.{◌≡◌, ℕ, zero, suc, ◌+◌, ◌-◌, ◌<◌, ◌≤◌, Bool, true, false, cond, eqb, ltb, List, length, get_or, take, drop, sym, refl, ap, ◌∙◌, subst, arith}
 use Rattle.std.proofs.lemmas.List.{drop_more, take_all}
 use Rattle.std.proofs.lemmas.List.Sums.{count_by_more_yes, sum_by-take-le}
 use Rattle.std.proofs.lemmas.Bool.{lt-ltb, eq-eqb, ne_eqb, le-leb, lt-leb, and_from, and_left, and_right, le-ltb}
 use Rattle.model.specs.declared.rows.Branch.{Branch}
 use Rattle.model.specs.declared.rows.Label.{Label}
-use Rattle.model.specs.Labels.{standing, unbound}
+use Rattle.model.specs.Labels.{standing}
 use Rattle.model.specs.State.{State, unknown, cur_offset}
-use Rattle.model.specs.Simplify.{Round, last_branch, takes_branch, round, rounds}
+use Rattle.model.specs.Simplify.{last_branch, takes_branch, round, rounds}
 use Rattle.simplification.specs.declared.rules.Rule.{Rule}
 use Rattle.simplification.specs.declared.rules.Rule.TheVariants.{CutToNext}
 use Rattle.simplification.specs.declared.rules.Outcome.{Outcome}

@@ -2,7 +2,7 @@
 use Rattle.std.proofs.Common.{◌≡◌, Bool, true, false, not, ◌&&◌, ◌||◌, eqb, refl, inl, inr}
 use Rattle.std.proofs.lemmas.Bool.{cases_Bool}
 use Rattle.model.specs.State.{State, cur_offset}
-use Rattle.model.specs.Simplify.{Round, last_branch, branch_before, target_of, adjoins, has_labels, takes_branch, round}
+use Rattle.model.specs.Simplify.{last_branch, branch_before, target_of, adjoins, has_labels, takes_branch, round}
 use Rattle.simplification.specs.Rules.{try_rules, all_rules}
 
 pub tried : (s : State) → takes_branch s ≡ true → ((round s).again, (round s).state) ≡ try_rules all_rules s

@@ -1,4 +1,4 @@
-use Rattle.std.proofs.Common.{◌≡◌, ◌+◌, ◌-◌, ◌<◌, ◌≤◌, Bool, true, false, eqb, length, get_or, take, drop, sym, refl, ap, ◌∙◌, arith, rules}
+use Rattle.std.proofs.Common.{◌≡◌, ◌+◌, ◌-◌, ◌<◌, Bool, false, eqb, length, get_or, drop, sym, refl, ap, ◌∙◌, arith}
 use Rattle.std.proofs.lemmas.List.{at_drop_all}
 use Rattle.std.proofs.lemmas.List.Sums.{count_by_more_yes, count_by_more_no}
 use Rattle.std.proofs.lemmas.Bool.{eq-eqb, ne_eqb}
@@ -9,7 +9,6 @@ use Rattle.simplification.specs.declared.rules.Rule.TheVariants.{CutToNext}
 use Rattle.simplification.specs.Rules.{fuel, try_rules, all_rules}
 use Rattle.tables.specs.View.{view}
 use Rattle.simplification.proofs.RoundSteps.{takes_yes, takes_none, takes_apart, takes_crowded, over_none, over_tried, again, step_applied, step_stopped, step_passed, stood_all, stood_some, passed_same, stopped_same, applied_falls}
-use Rattle.simplification.proofs.rounds.run_rounds.Given as given
 use Rattle.simplification.proofs.rounds.run_rounds.Goals as goal
 use Rattle.simplification.proofs.rounds.run_rounds.Goals.{then-label-branch+else-stood-gt-MAX_LABELS_AT_BRANCH, else-label-branch}
 

@@ -1,7 +1,6 @@
-use Rattle.std.proofs.Common.{◌≡◌, ℕ, ◌+◌, ◌++◌, length, vec_items, vec_len, sym, ap, ◌∙◌, subst, arith, length-append}
+use Rattle.std.proofs.Common.{◌≡◌, ℕ, ◌+◌, length, vec_items, vec_len, sym, ap, ◌∙◌, subst, arith, length-append}
 use Rattle.model.specs.State.{State}
 use Rattle.tables.specs.Standing.{Within, Waiting}
-use Rattle.tables.specs.View.{view}
 use Rattle.tables.proofs.tables.Tables.append_branch.Goals as goal
 
 pub push_branch-requires : goal.push_branch-requires

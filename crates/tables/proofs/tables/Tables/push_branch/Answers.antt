@@ -1,5 +1,4 @@
-use Rattle.std.proofs.Common.{◌≡◌, ◌+◌, ◌<◌, ◌≤◌, List, vec_items, vec_len, sym, subst, arith, rules}
-use Rattle.model.specs.declared.rows.Branch.{Branch}
+use Rattle.std.proofs.Common.{◌+◌, ◌<◌, ◌≤◌, vec_items, vec_len, sym, subst, rules}
 use Rattle.model.specs.Simplify.{no_branch}
 use Rattle.tables.specs.Standing.{Begun, Short, Within, Waiting, InOrder, FixupsInOrder}
 use Rattle.tables.proofs.Rows.{each_push, chain_push}
