@@ -17,7 +17,7 @@ use Rattle.isa.specs.Isa.{Patchable, bytes_at, patched_at}
 use Rattle.isa.specs.Laws.{Leads}
 use Rattle.isa.specs.Roles.{is_branch}
 use Rattle.isa.proofs.Finding.{holds, one_size}
-use Rattle.isa.proofs.Formatted.{reads_patched, finds_branch as formatted-branch}
+use Rattle.isa.proofs.Formatted.{reads_patched, finds_branch as formatted_branch}
 use Rattle.aarch64.specs.Fields.{format}
 use Rattle.aarch64.specs.Meaning.{aarch64, jump_at_head, long_jump, long_veneer, short_veneer}
 use Rattle.aarch64.specs.KindTables.{below_6, formatted}
@@ -31,7 +31,7 @@ branch_kinds = below_6 (λ k. (b : List ℕ) → is_branch (aarch64.role k b) �
 pub finds_branch : (k : ℕ) (b : List ℕ) (d : ℤ) (before after : List ℕ) → Patchable aarch64 k b d → is_branch (aarch64.role k b) ≡ true
     → aarch64.find (before ++ (aarch64.patched k b d ++ after)) (length before) ≡ Branch (aarch64.role k b) 4 d
 finds_branch =
-    formatted-branch formatted (0 ∷ 1 ∷ 2 ∷ []) long_jump (λ code at. refl) (λ k b c p q. role_outside k p.kind b c) (λ k b p. branch_kinds k p.kind b)
+    formatted_branch formatted (0 ∷ 1 ∷ 2 ∷ []) long_jump (λ code at. refl) (λ k b c p q. role_outside k p.kind b c) (λ k b p. branch_kinds k p.kind b)
     (λ k j b after p t h. role_once j k b (one_size aarch64 4 j b after p.long h) t)
 
 from_zero : (d : ℤ) → d ≡ pos 0 +ℤ d

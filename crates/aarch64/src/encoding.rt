@@ -25,7 +25,7 @@ pub fn rewrite(kind: u32, code: u32, bits: u32) -> u32
 // The displacement in the field of a kind.
 pub fn displacement_in(kind: u32, bytes: &[u8]) -> i64
     requires kind_bound { kind < 6 }
-    requires bytes_len { length bytes.now ≡ 4 }
+    requires word_long { length bytes.now ≡ 4 }
     ensures value { result ≡ reading (format kind) bytes.now }
     ensures up { result ≤ℤ pos 2147483647 }
     ensures down { negsuc 2147483647 ≤ℤ result }

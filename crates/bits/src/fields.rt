@@ -13,8 +13,8 @@ pub fn get_field(code: u32, lo: u32, width: u32) -> u32
 
 /// The word with a value in the `width` bits from bit `lo`, the others unchanged.
 pub fn put_field(code: u32, lo: u32, width: u32, value: u32) -> u32
-    requires width_bound { lo + width ≤ 32 }
-    requires value_bound { value < 2 ^ width }
+    requires field_in { lo + width ≤ 32 }
+    requires value_fits { value < 2 ^ width }
     ensures { result ≡ put lo width code value }
 {
     let end = lo + width;

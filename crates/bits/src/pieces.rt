@@ -7,8 +7,8 @@ use crate::fields::{get_field, put_field};
 
 /// The word with the `width` bits of a number from bit `from` in its `width` bits from bit `at`.
 pub fn copy_piece(code: u32, at: u32, width: u32, number: u32, from: u32) -> u32
-    requires width_bound { at + width ≤ 32 }
-    requires width_bound_2 { from + width ≤ 32 }
+    requires place_in { at + width ≤ 32 }
+    requires source_in { from + width ≤ 32 }
     ensures { result ≡ put at width code (get from width number) }
 {
     put_field(code, at, width, get_field(number, from, width))
@@ -17,7 +17,7 @@ pub fn copy_piece(code: u32, at: u32, width: u32, number: u32, from: u32) -> u32
 /// A number of `high` + 1 bits, read as two's complement.
 pub fn sign_extend(value: u32, high: u32) -> i64
     requires high_bound { high < 32 }
-    requires value_bound { value < 2 ^ (high + 1) }
+    requires value_fits { value < 2 ^ (high + 1) }
     ensures value { result ≡ signed high value }
     ensures up { result ≤ℤ pos 2147483647 }
     ensures down { negsuc 2147483647 ≤ℤ result }

@@ -27,7 +27,7 @@ fn is_aligned<S: InstructionSet>(set: &S, displacement: i64) -> bool
 // Whether a multiple of the alignment is within the kind's range.
 fn is_near<S: InstructionSet>(set: &S, kind: u32, displacement: i64) -> bool
     requires kind_bound { kind < (S.meaning set.now).kinds }
-    requires set_value { unsigned_abs displacement % (S.meaning set.now).align ≡ 0 }
+    requires whole { unsigned_abs displacement % (S.meaning set.now).align ≡ 0 }
     ensures { MatchBool result (Reaches (S.meaning set.now) kind displacement) (Reaches (S.meaning set.now) kind displacement → ⊥) }
 {
     displacement <= set.max_pos_range(kind) as i64

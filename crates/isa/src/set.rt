@@ -56,7 +56,7 @@ pub trait InstructionSet {
     /// Whether the bytes of two conditionals are equal but for the field and the sense.
     fn same_rest(&self, kind: u32, bytes: &[u8], other: &[u8]) -> bool
         requires of_kind { OfKind (meaning self.now) kind bytes.now }
-        requires of_kind_2 { OfKind (meaning self.now) kind other.now }
+        requires other_of_kind { OfKind (meaning self.now) kind other.now }
         ensures { result ≡ same ((meaning self.now).rest kind bytes.now) ((meaning self.now).rest kind other.now) };
 
     /// Turns the sense of a conditional's bytes round.
@@ -72,7 +72,7 @@ pub trait InstructionSet {
     /// How many bytes the veneer has.
     fn veneer_size(&self, kind: u32) -> u32
         requires kind_bound { kind < (meaning self.now).kinds }
-        requires kind_value { (meaning self.now).supports kind ≡ true }
+        requires has_veneer { (meaning self.now).supports kind ≡ true }
         ensures { result ≡ length ((meaning self.now).veneer kind).code };
 
     /// How many bytes the longest veneer has.
@@ -82,7 +82,7 @@ pub trait InstructionSet {
     /// Writes the veneer, and answers the place of its own use in it and that use's kind.
     fn generate_veneer(&self, kind: u32, buffer: &mut [u8]) -> (u32, u32)
         requires kind_bound { kind < (meaning self.now).kinds }
-        requires kind_value { (meaning self.now).supports kind ≡ true }
+        requires has_veneer { (meaning self.now).supports kind ≡ true }
         requires buffer_len { length buffer.old ≡ length ((meaning self.now).veneer kind).code }
         ensures code { buffer.new ≡ ((meaning self.now).veneer kind).code }
         ensures place { result.0 ≡ ((meaning self.now).veneer kind).place }

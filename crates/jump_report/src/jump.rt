@@ -67,7 +67,7 @@ fn made_veneer<S: InstructionSet>(
     kind: u32,
 ) -> Result<(Vec<u8>, u32, u32), AllocError>
     requires kind_bound { kind < (S.meaning set.now).kinds }
-    requires kind_value { (S.meaning set.now).supports kind ≡ true }
+    requires has_veneer { (S.meaning set.now).supports kind ≡ true }
     ensures { IfOk result (λ v. Parts ((S.meaning set.now).veneer kind) v.0.items v.1 v.2) }
 {
     let mut code = vec![in heap; 0; set.veneer_size(kind) as usize]?;

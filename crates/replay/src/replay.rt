@@ -1,7 +1,7 @@
 // One call after another.
 ghost use Rattle.std.specs.Prelude.{◌≡◌, true, map, IfOk};
 ghost use Rattle.buffer.specs.View.{view};
-ghost use Rattle.model.specs.Steps.{answer_of as model-answer, Number as ModelNumber, StartPatchable, EndPatchable, nothing_more, step};
+ghost use Rattle.model.specs.Steps.{answer_of as model_answer, Number as ModelNumber, StartPatchable, EndPatchable, nothing_more, step};
 ghost use Rattle.replay.specs.Calls.{answer_of, call_of, is_plain};
 ghost use Rattle.replay.specs.Tokens.{Held};
 ghost use Rattle.replay.specs.Accepted.{is_accepted};
@@ -15,7 +15,7 @@ use model::Refusal;
 use std::alloc::{AllocError, Global};
 
 fn plain(res: Result<(), Refusal>) -> Answer
-    ensures { answer_of result ≡ model-answer nothing_more res }
+    ensures { answer_of result ≡ model_answer nothing_more res }
 {
     match res {
         Ok(()) => Answer::Granted,
@@ -24,7 +24,7 @@ fn plain(res: Result<(), Refusal>) -> Answer
 }
 
 fn numbered(res: Result<u32, Refusal>) -> Answer
-    ensures { answer_of result ≡ model-answer ModelNumber res }
+    ensures { answer_of result ≡ model_answer ModelNumber res }
 {
     match res {
         Ok(number) => Answer::Number(number),

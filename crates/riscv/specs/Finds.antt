@@ -12,7 +12,7 @@ use Rattle.isa.specs.Isa.{Patchable, bytes_at, patched_at}
 use Rattle.isa.specs.Laws.{Leads}
 use Rattle.isa.specs.Roles.{is_branch}
 use Rattle.isa.proofs.Finding.{holds, one_size}
-use Rattle.isa.proofs.Formatted.{finds_branch as formatted-branch}
+use Rattle.isa.proofs.Formatted.{finds_branch as formatted_branch}
 use Rattle.riscv.specs.Meaning.{riscv}
 use Rattle.riscv.specs.KindTables.{below_2, formatted}
 use Rattle.riscv.specs.RoleLaws.{role_outside, role_once}
@@ -24,7 +24,7 @@ branch_kinds = below_2 (λ k. (b : List ℕ) → is_branch (riscv.role k b) ≡ 
 pub finds_branch : (k : ℕ) (b : List ℕ) (d : ℤ) (before after : List ℕ) → Patchable riscv k b d → is_branch (riscv.role k b) ≡ true
     → riscv.find (before ++ (riscv.patched k b d ++ after)) (length before) ≡ Branch (riscv.role k b) 4 d
 finds_branch =
-    formatted-branch formatted (0 ∷ 1 ∷ []) (λ c. NoJump) (λ code at. refl) (λ k b c p q. role_outside k p.kind b c) (λ k b p. branch_kinds k p.kind b)
+    formatted_branch formatted (0 ∷ 1 ∷ []) (λ c. NoJump) (λ code at. refl) (λ k b c p q. role_outside k p.kind b c) (λ k b p. branch_kinds k p.kind b)
     (λ k j b after p t h. role_once j k b (one_size riscv 4 j b after p.long h) t)
 
 from_zero : (d : ℤ) → d ≡ pos 0 +ℤ d

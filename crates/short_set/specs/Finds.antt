@@ -13,7 +13,7 @@ use Rattle.isa.specs.Isa.{Patchable, bytes_at, patched_at}
 use Rattle.isa.specs.Laws.{Leads}
 use Rattle.isa.specs.Roles.{is_branch}
 use Rattle.isa.proofs.Finding.{holds, one_size}
-use Rattle.isa.proofs.Formatted.{finds_branch as formatted-branch}
+use Rattle.isa.proofs.Formatted.{finds_branch as formatted_branch}
 use Rattle.short_set.specs.Meaning.{short}
 use Rattle.short_set.specs.KindTables.{below_4, formatted, role_outside, role_once}
 
@@ -25,7 +25,7 @@ branch_kinds = below_4 (λ k. (b : List ℕ) → is_branch (short.role k b) ≡ 
 pub finds_branch : (k : ℕ) (b : List ℕ) (d : ℤ) (before after : List ℕ) → Patchable short k b d → is_branch (short.role k b) ≡ true
     → short.find (before ++ (short.patched k b d ++ after)) (length before) ≡ Branch (short.role k b) 4 d
 finds_branch =
-    formatted-branch formatted (0 ∷ 1 ∷ 2 ∷ []) (λ c. NoJump) (λ code at. refl) (λ k b c p q. role_outside k p.kind b c) (λ k b p. branch_kinds k p.kind b)
+    formatted_branch formatted (0 ∷ 1 ∷ 2 ∷ []) (λ c. NoJump) (λ code at. refl) (λ k b c p q. role_outside k p.kind b c) (λ k b p. branch_kinds k p.kind b)
     (λ k j b after p t h. role_once j k b (one_size short 4 j b after p.long h) t)
 
 from_zero : (d : ℤ) → d ≡ pos 0 +ℤ d

@@ -35,7 +35,7 @@ fn begins_branch(kind: u32, code: &[u8]) -> bool
 // The branch at the head of the code.
 fn branch_of(kind: u32, code: &[u8]) -> Found
     requires kind_bound { kind < 4 }
-    requires in_bounds { 4 ≤ length code.now }
+    requires has_word { 4 ≤ length code.now }
     ensures { result ≡ branch_at 4 (λ b. role_of kind (word 4 b)) (λ b. reading (format kind) b) code.now }
 {
     let head = &code[0..4];

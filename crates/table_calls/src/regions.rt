@@ -35,7 +35,7 @@ pub fn end_patchable(
     tables: &mut Tables,
     region: OpenPatchRegion,
 ) -> Result<PatchRegion, (Refusal, OpenPatchRegion)>
-    ensures tables_after { (closed_place result, view tables.new) ≡ end_patchable (view tables.old) region.number }
+    ensures tables { (closed_place result, view tables.new) ≡ end_patchable (view tables.old) region.number }
     ensures region { HandedBack result region }
 {
     let Some(start) = tables.opened else {

@@ -6,11 +6,11 @@ pub overflow_cast-result-3 : goal.overflow_cast-result-3
 overflow_cast-result-3 c =
     let a = c.args in
     let f : a.code < 2 ^ 32 = c.ranges.code.fits in
-    let e = put_code a.lo a.width a.code a.value c.requires.width_bound f c.requires.value_bound in
-    let p = put-fits 32 a.lo a.width a.code a.value c.requires.width_bound f c.requires.value_bound in
+    let e = put_code a.lo a.width a.code a.value c.requires.field_in f c.requires.value_fits in
+    let p = put-fits 32 a.lo a.width a.code a.value c.requires.field_in f c.requires.value_fits in
     record { fits = subst (λ (n : ℕ). n < 2 ^ 32) (sym e) p }
 
 pub returns : goal.returns
 returns c =
     let a = c.args in
-    put_code a.lo a.width a.code a.value c.requires.width_bound c.ranges.code.fits c.requires.value_bound
+    put_code a.lo a.width a.code a.value c.requires.field_in c.ranges.code.fits c.requires.value_fits
