@@ -6,4 +6,4 @@ abbrev pub more : ℕ → ℕ
 more n = min (n + 1) (2 ^ 64 - 1)
 
 abbrev pub added : Count → Bool → Count
-added c is-equal = record { all = more c.all; equal = cond is-equal (more c.equal) c.equal }
+added c is_equal = record { all = more c.all; equal = cond is_equal (more c.equal) c.equal }
