@@ -14,4 +14,9 @@
 #![tactic(auto)]
 
 pub mod buffer;
+pub mod capacities;
 pub mod regions;
+
+pub use simplification::rules;
+pub use slices::labels;
+pub use tables::table;

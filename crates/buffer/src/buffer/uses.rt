@@ -1,6 +1,6 @@
 // Bytes that refer to a label, and branches.
-ghost use Rattle.std.specs.Prelude.{◌≡◌, ◌<◌, true, length};
-ghost use Rattle.model.specs.Calls.{is_use, is_jump, is_unconditional, use_label_at_offset, add_uncond_branch, add_cond_branch};
+ghost use Rattle.std.specs.Prelude.{◌≡◌, ◌+◌, ◌<◌, ◌≤◌, true, length, vec_len};
+ghost use Rattle.model.specs.Calls.{is_use, is_jump, is_unconditional, append_use, append_branch, use_label_at_offset, add_uncond_branch, add_cond_branch};
 ghost use Rattle.model.specs.Fixups.{fixup_at};
 ghost use Rattle.model.specs.State.{cur_offset};
 ghost use Rattle.buffer.specs.Checks.{check_target, place_branch};
@@ -55,6 +55,19 @@ impl<S: InstructionSet + Drop> MachBuffer<S> {
         }
     }
 
+    // Appends bytes with a fixup for them.
+    fn append(&mut self, label: u32, kind: u32, bytes: &[u8])
+        requires kind { kind < (S.meaning self.old.set).kinds }
+        requires fixups { vec_len self.old.tables.fresh.rows + vec_len self.old.tables.held.rows < 4096 }
+        requires code { vec_len self.old.tables.code.rows + length bytes.now ≤ 65536 }
+        ensures tables { view self.new ≡ append_use (S.meaning self.old.set) (view self.old) label kind bytes.now }
+        ensures set { self.new.set ≡ self.old.set }
+    {
+        let fixup = self.fixup_here(label, kind);
+        let soon = fixup.deadline.saturating_sub(self.set.align() as u64);
+        self.tables.append_use(fixup, soon, bytes);
+    }
+
     // The first checks of a use: whether the buffer takes one, and its label and kind exist.
     fn check_target(&self, label: u32, kind: u32) -> Result<(), Refusal>
         ensures { result ≡ check_target (S.meaning self.now.set) (view self.now) label kind }
@@ -98,10 +111,32 @@ impl<S: InstructionSet + Drop> MachBuffer<S> {
         if bytes.len() > MAX_CODE - offset {
             return Err(Refusal::CodeFull);
         }
+        self.append(label, kind, bytes);
+        Ok(offset as u32)
+    }
+
+    // Appends a branch whose bytes have the kind's length.
+    fn append_branch(
+        &mut self,
+        conditional: bool,
+        label: u32,
+        kind: u32,
+        bytes: &[u8],
+        inverted: &[u8],
+    )
+        requires kind { kind < (S.meaning self.old.set).kinds }
+        requires long { length bytes.now ≡ (S.meaning self.old.set).size kind }
+        requires inverted_long { length inverted.now ≡ (S.meaning self.old.set).size kind }
+        requires fixups { vec_len self.old.tables.fresh.rows + vec_len self.old.tables.held.rows < 4096 }
+        requires branches { vec_len self.old.tables.branches.rows < 512 }
+        requires code { vec_len self.old.tables.code.rows + length bytes.now ≤ 65536 }
+        ensures tables { view self.new ≡ append_branch (S.meaning self.old.set) (view self.old) conditional label kind bytes.now inverted.now }
+        ensures set { self.new.set ≡ self.old.set }
+    {
         let fixup = self.fixup_here(label, kind);
         let soon = fixup.deadline.saturating_sub(self.set.align() as u64);
-        self.tables.append_use(fixup, soon, bytes);
-        Ok(offset as u32)
+        self.tables
+            .append_branch(conditional, fixup, soon, bytes, inverted);
     }
 
     // Appends a branch, if its bytes suit it and there is a place for it.
@@ -136,10 +171,7 @@ impl<S: InstructionSet + Drop> MachBuffer<S> {
         if bytes.len() > MAX_CODE - offset {
             return Err(Refusal::CodeFull);
         }
-        let fixup = self.fixup_here(label, kind);
-        let soon = fixup.deadline.saturating_sub(self.set.align() as u64);
-        self.tables
-            .append_branch(conditional, fixup, soon, bytes, inverted);
+        self.append_branch(conditional, label, kind, bytes, inverted);
         Ok(offset as u32)
     }
 
