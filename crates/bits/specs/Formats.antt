@@ -1,7 +1,6 @@
 -- How a displacement stands in the bytes that hold it.
 use Rattle.std.specs.Prelude.{ℕ, ◌+◌, ◌-◌, ◌*◌, ◌%◌, ◌^◌, List, ℤ}
-use Rattle.std.specs.Int.{w32}
-use Rattle.std.proofs.Common.{of_z}
+use Rattle.std.specs.Int.{cast_unsigned, w32}
 use Rattle.bits.specs.Fields.{Piece, scatter, gather}
 use Rattle.bits.specs.Words.{word, to_bytes, signed}
 
@@ -28,7 +27,7 @@ rewriting (whole n) x u = (x + u) % 2 ^ (8 * n)
 
 -- the bytes with the displacement d in the field, or added
 abbrev pub patching : Format → List ℕ → ℤ → List ℕ
-patching f b d = to_bytes (width f) (rewriting f (word (width f) b) (of_z w32 d))
+patching f b d = to_bytes (width f) (rewriting f (word (width f) b) (cast_unsigned w32 d))
 
 -- the word with the field cleared
 abbrev pub clear_field : Format → ℕ → ℕ

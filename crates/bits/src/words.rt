@@ -1,8 +1,7 @@
 // Words as bytes.
 ghost use Rattle.std.specs.Prelude.{◌≡◌, ◌^◌, ◌<◌, length};
 ghost use Rattle.std.specs.Int.Signed.{mag};
-ghost use Rattle.std.specs.Int.{w32};
-ghost use Rattle.std.proofs.Common.{of_z};
+ghost use Rattle.std.specs.Int.{cast_unsigned, w32};
 ghost use Rattle.bits.specs.Words.{word, to_bytes};
 
 /// Four bytes as a word, little-endian.
@@ -24,7 +23,7 @@ pub fn write_word(bytes: &mut [u8], value: u32)
 /// The low 32 bits of a displacement, in two's complement.
 pub fn low_bits(displacement: i64) -> u32
     requires { mag displacement < 2 ^ 31 }
-    ensures { result ≡ of_z w32 displacement }
+    ensures { result ≡ cast_unsigned w32 displacement }
 {
     (displacement as i32).cast_unsigned()
 }

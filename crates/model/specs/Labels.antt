@@ -1,5 +1,5 @@
 -- Labels: where they stand, and where they lead along their aliases.
-use Rattle.std.specs.Prelude.{ℕ, zero, suc, Bool, false, cond, not, ◌&&◌, List, length, count_by, ◌==◌, nat_eq, slice_index_or, slice_set}
+use Rattle.std.specs.Prelude.{ℕ, zero, suc, Bool, false, cond, not, ◌&&◌, List, length, count_by, ◌==◌, slice_index_or, slice_set}
 use Rattle.model.specs.declared.rows.Label.{Label}
 use Rattle.model.specs.State.{unknown}
 
@@ -34,7 +34,7 @@ is_lost ls l = let r = label_row ls (root ls l) in (r.offset == unknown) && not 
 
 -- how many labels stand at an offset
 abbrev pub standing : ℕ → List Label → ℕ
-standing at ls = count_by (λ (x : Label). nat_eq x.offset at) ls
+standing at ls = count_by (λ (x : Label). x.offset == at) ls
 
 -- how many labels stand anywhere
 abbrev pub bound_count : List Label → ℕ

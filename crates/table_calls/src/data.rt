@@ -32,7 +32,7 @@ pub fn put_data(tables: &mut Tables, trap: u32, bytes: &[u8]) -> Result<u32, Ref
             code: trap,
         });
     }
-    let _ = tables.code.rows.extend_from_slice(bytes);
+    tables.append_bytes(bytes);
     Ok(offset as u32)
 }
 

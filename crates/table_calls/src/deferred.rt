@@ -4,7 +4,7 @@ ghost use Rattle.model.specs.Calls.{defer_trap, get_label_for_constant};
 ghost use Rattle.tables.specs.View.{view};
 
 use model::Refusal;
-use model::rows::{Constant, DeferredTrap, Label, UNKNOWN};
+use model::rows::{Constant, DeferredTrap, UNKNOWN};
 use tables::capacities::{MAX_LABELS, MAX_REQUESTS, MAX_TRAPS};
 use tables::tables::Tables;
 
@@ -25,11 +25,7 @@ pub fn defer_trap(tables: &mut Tables, trap: u32) -> Result<u32, Refusal>
     if label >= MAX_LABELS {
         return Err(Refusal::LabelsFull);
     }
-    tables.labels.rows.push_reserved(Label {
-        offset: UNKNOWN,
-        alias: UNKNOWN,
-        reserved: true,
-    });
+    tables.push_label(true);
     tables.deferred.rows.push_reserved(DeferredTrap {
         label: label as u32,
         code: trap,
@@ -59,11 +55,7 @@ pub fn get_label_for_constant(tables: &mut Tables, number: u32) -> Result<u32, R
     if label >= MAX_LABELS {
         return Err(Refusal::LabelsFull);
     }
-    tables.labels.rows.push_reserved(Label {
-        offset: UNKNOWN,
-        alias: UNKNOWN,
-        reserved: true,
-    });
+    tables.push_label(true);
     tables.constants.rows[n] = Constant {
         label: label as u32,
         ..constant

@@ -4,7 +4,6 @@ ghost use Rattle.model.specs.Calls.{get_label};
 ghost use Rattle.tables.specs.View.{view};
 
 use model::Refusal;
-use model::rows::{Label, UNKNOWN};
 use tables::capacities::MAX_LABELS;
 use tables::tables::Tables;
 
@@ -19,10 +18,6 @@ pub fn get_label(tables: &mut Tables) -> Result<u32, Refusal>
     if number >= MAX_LABELS {
         return Err(Refusal::LabelsFull);
     }
-    tables.labels.rows.push_reserved(Label {
-        offset: UNKNOWN,
-        alias: UNKNOWN,
-        reserved: false,
-    });
+    tables.push_label(false);
     Ok(number as u32)
 }

@@ -16,7 +16,7 @@ impl Tables {
         requires room { vec_len self.old.code.rows + n ≤ 65536 }
         ensures { view self.new ≡ with_code (view self.old) ((view self.old).code ++ zeros n) }
     {
-        let _ = self.code.rows.extend_from_slice(&ZEROS[0..n]);
+        self.append_bytes(&ZEROS[0..n]);
     }
 
     /// Appends bytes, where there is room for them.

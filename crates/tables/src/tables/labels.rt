@@ -1,13 +1,13 @@
 // Making the tables, and the labels.
 ghost use Rattle.std.specs.Prelude.{◌≡◌, ◌<◌, map, IfOk, vec_len};
-ghost use Rattle.model.specs.Calls.{bind};
+ghost use Rattle.model.specs.Calls.{add_label, bind};
 ghost use Rattle.model.specs.Labels.{moved, aliased};
 ghost use Rattle.model.specs.State.{empty, with_labels};
 ghost use Rattle.tables.specs.View.{view};
 
 use super::Tables;
 use crate::table::Table;
-use model::rows::UNKNOWN;
+use model::rows::{Label, UNKNOWN};
 use slices::labels::{alias_labels, move_labels};
 use std::alloc::{AllocError, Global};
 
@@ -32,6 +32,18 @@ impl Tables {
             opened: None,
             broken: false,
         })
+    }
+
+    /// One label more, where there is room for it. A reserved one is bound by islands alone.
+    pub fn push_label(&mut self, reserved: bool)
+        requires { vec_len self.old.labels.rows < 4096 }
+        ensures { view self.new ≡ add_label (view self.old) reserved }
+    {
+        self.labels.rows.push_reserved(Label {
+            offset: UNKNOWN,
+            alias: UNKNOWN,
+            reserved,
+        });
     }
 
     /// Binds a label at the current offset.

@@ -18,6 +18,6 @@ impl Tables {
         if soon < self.deadline {
             self.deadline = soon;
         }
-        let _ = self.code.rows.extend_from_slice(bytes);
+        self.append_bytes(bytes);
     }
 }
