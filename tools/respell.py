@@ -28,11 +28,6 @@ def files(top):
                 yield os.path.join(folder, n)
 
 
-def is_answer(path):
-    """A file of one function's proof, whose goals have names that Rattle made."""
-    return os.path.basename(path) in ("Answers.antt", "Invariants.antt", "Choices.antt", "Proof.antt")
-
-
 def snake(name):
     return name.replace("-", "_").replace("\u2032", "'")
 
