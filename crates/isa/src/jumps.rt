@@ -27,7 +27,7 @@ pub struct Condition {
 }
 
 /// The role of a use's bytes.
-#[derive(Clone, Copy, Debug)]
+#[derive(Clone, Copy, PartialEq, Eq, Debug)]
 pub enum Role {
     /// it always jumps
     Unconditional,
@@ -42,16 +42,12 @@ impl Role {
     pub fn is_branch(self) -> bool
         ensures { result ≡ is_branch self }
     {
-        match self {
-            Role::Unconditional => true,
-            Role::Conditional { .. } => true,
-            Role::NoBranch => false,
-        }
+        !matches!(self, Role::NoBranch)
     }
 }
 
 /// What stands at an offset of some code. A displacement counts from that offset.
-#[derive(Clone, Copy, Debug)]
+#[derive(Clone, Copy, PartialEq, Eq, Debug)]
 pub enum Found {
     /// a branch of `size` bytes
     Branch {

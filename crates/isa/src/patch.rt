@@ -3,9 +3,9 @@ ghost use Rattle.std.specs.Prelude.{◌≡◌, ◌%◌, ◌<◌, is_ok, if◌the
 ghost use Rattle.isa.specs.Isa.{Reaches, Patchable};
 ghost use Rattle.isa.specs.Laws.{OfKind};
 ghost use Rattle.isa.specs.Patches.{Fresh, TurnedAway, inversion};
-ghost use Rattle.isa.specs.Roles.{family_index, same_condition, opposite};
+ghost use Rattle.isa.specs.Roles.{opposite};
 
-use crate::jumps::{Condition, Family, Role};
+use crate::jumps::Role;
 use crate::refusals::PatchRefusal;
 use crate::set::InstructionSet;
 
@@ -76,26 +76,6 @@ pub fn checked_patch<S: InstructionSet>(
     Ok(())
 }
 
-fn index(family: Family) -> u32
-    ensures { result ≡ family_index family }
-{
-    match family {
-        Family::Flags => 0,
-        Family::Zero => 1,
-        Family::Bit => 2,
-        Family::Compare => 3,
-    }
-}
-
-fn same_condition(a: Condition, b: Condition) -> bool
-    ensures { result ≡ same_condition a b }
-{
-    index(a.family) == index(b.family)
-        && a.test == b.test
-        && a.first == b.first
-        && a.second == b.second
-}
-
 // Two conditionals with one condition and two senses.
 fn are_opposite(a: Role, b: Role) -> bool
     ensures { result ≡ opposite a b }
@@ -110,7 +90,7 @@ fn are_opposite(a: Role, b: Role) -> bool
                 condition: y,
                 sense: t,
             },
-        ) => { same_condition(x, y) && s != t }
+        ) => x == y && s != t,
         _ => false,
     }
 }

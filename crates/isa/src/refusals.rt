@@ -17,12 +17,12 @@ pub enum PatchRefusal {
     OutOfReach,
 }
 
-impl PatchRefusal {
-    /// The number that stands for the refusal wherever refusals are numbered.
-    pub fn number(self) -> u32
-        ensures { result ≡ refusal_number self }
-    {
-        match self {
+/// The number that stands for the refusal wherever refusals are numbered.
+impl From<PatchRefusal> for u32 {
+    ghost from_gives = { λ e r. r ≡ refusal_number e };
+
+    fn from(refusal: PatchRefusal) -> u32 {
+        match refusal {
             PatchRefusal::NoSuchKind => 6,
             PatchRefusal::WrongLength => 7,
             PatchRefusal::NotZero => 7,

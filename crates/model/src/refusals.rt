@@ -49,12 +49,12 @@ pub enum Refusal {
     NoSuchRegion,
 }
 
-impl Refusal {
-    /// The number that stands for the refusal wherever refusals are numbered.
-    pub fn number(self) -> u32
-        ensures { result ≡ refusal_number self }
-    {
-        match self {
+/// The number that stands for the refusal wherever refusals are numbered.
+impl From<Refusal> for u32 {
+    ghost from_gives = { λ e r. r ≡ refusal_number e };
+
+    fn from(refusal: Refusal) -> u32 {
+        match refusal {
             Refusal::BrokenOff => 1,
             Refusal::RegionOpen => 2,
             Refusal::NoSuchLabel => 3,
