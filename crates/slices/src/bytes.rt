@@ -7,7 +7,7 @@ ghost use Rattle.model.specs.Code.{overwritten, padding, is_alignment};
 pub fn is_alignment_number(n: u32) -> bool
     ensures { result ≡ is_alignment n }
 {
-    n == 1 || n == 2 || n == 4 || n == 8 || n == 16 || n == 32 || n == 64
+    matches!(n, 1 | 2 | 4 | 8 | 16 | 32 | 64)
 }
 
 /// How many bytes an offset lacks to a multiple of n.

@@ -9,11 +9,10 @@ fn constant_room(constants: &[Constant], number: u32) -> u64
     ensures value { result ≡ (slice_index_or constants.now number no_constant).size + (slice_index_or constants.now number no_constant).align }
     ensures small { result ≤ 8589934592 }
 {
-    if number as usize >= constants.len() {
-        return 1;
+    match constants.get(number as usize) {
+        Some(constant) => constant.size as u64 + constant.align as u64,
+        None => 1,
     }
-    let constant = constants[number as usize];
-    constant.size as u64 + constant.align as u64
 }
 
 /// The most bytes that some constants can take, with padding.
@@ -22,9 +21,8 @@ pub fn constants_room(constants: &[Constant], numbers: &[u32]) -> u64
     ensures value { result ≡ sum_by (λ (n : ℕ). (slice_index_or constants.now n no_constant).size + (slice_index_or constants.now n no_constant).align) numbers.now }
     ensures small { result ≤ 512 * 8589934592 }
 {
-    let mut sum: u64 = 0;
-    for number in numbers {
-        sum += constant_room(constants, *number);
-    }
-    sum
+    numbers
+        .iter()
+        .map(|number| constant_room(constants, *number))
+        .sum()
 }

@@ -8,11 +8,8 @@ use model::rows::{Fixup, UNKNOWN};
 pub fn least_of(fixups: &[Fixup]) -> u64
     ensures { result ≡ least_deadline fixups.now }
 {
-    let mut least = UNKNOWN as u64;
-    for fixup in fixups {
-        if fixup.deadline < least {
-            least = fixup.deadline;
-        }
-    }
-    least
+    fixups
+        .iter()
+        .map(|fixup| fixup.deadline)
+        .fold(UNKNOWN as u64, |least, deadline| least.min(deadline))
 }
