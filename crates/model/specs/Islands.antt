@@ -10,7 +10,7 @@ use Rattle.model.specs.declared.refusals.Refusal.TheVariants.{BrokenOff, RegionO
 use Rattle.model.specs.Capacities.{max_code}
 use Rattle.model.specs.State.{State, unknown, cur_offset, is_open, with_code, with_labels, with_fresh, with_held, with_deadline, with_branches, with_deferred, with_traps, with_constants, with_requested, with_placed, with_broken}
 use Rattle.model.specs.Code.{zeros, aligned, padded_to}
-use Rattle.model.specs.Labels.{offset_of, is_known, bound_at}
+use Rattle.model.specs.Labels.{offset_of, is_known, bound_at, bound_if}
 use Rattle.model.specs.Fixups.{waiting, least_fresh_deadline, insert_held}
 use Rattle.model.specs.Constants.{constant_row, label_constant}
 use Rattle.model.specs.Progress.{Progress, reached, breaks_off, then}
@@ -80,7 +80,7 @@ traps_pass i (d ∷ ds) s = then (trap_step i s d) (λ r. traps_pass i ds r)
 
 -- a constant is placed as zeros at an offset behind the code, bound, and pending no longer
 abbrev pub place_constant : State → ℕ → ℕ → State
-place_constant s n at = with_code (with_labels (with_placed (with_constants s (label_constant s n unknown)) (s.placed ++ record { offset = at; number = n } ∷ [])) (bound_at s.labels (constant_row s n).label at)) (padded_to s.code at ++ zeros (constant_row s n).size)
+place_constant s n at = with_code (with_labels (with_placed (with_constants s (label_constant s n None)) (s.placed ++ record { offset = at; number = n } ∷ [])) (bound_if s.labels (constant_row s n).label at)) (padded_to s.code at ++ zeros (constant_row s n).size)
 
 -- the first requested constant is placed, aligned
 abbrev pub constant_step : State → ℕ → Progress

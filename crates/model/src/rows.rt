@@ -1,16 +1,16 @@
 // The rows of a buffer's tables.
 use crate::refusals::Refusal;
 
-/// As an offset, a label or a deadline: there is none.
+/// Where a label is that stands nowhere, and the cap of deadlines.
 pub const UNKNOWN: u32 = 4294967295;
 
 /// A label: it stands at an offset, or is an alias of another label and stands nowhere itself, or is unbound.
 #[derive(Clone, Copy)]
 pub struct Label {
     /// where it stands
-    pub offset: u32,
+    pub offset: Option<u32>,
     /// the label that it is an alias of
-    pub alias: u32,
+    pub alias: Option<u32>,
     /// it is the label of a trap or a constant, which an island binds
     pub reserved: bool,
 }
@@ -62,7 +62,7 @@ pub struct Trap {
 pub struct Constant {
     pub size: u32,
     pub align: u32,
-    pub label: u32,
+    pub label: Option<u32>,
 }
 
 /// A constant that an island has placed.
