@@ -39,6 +39,14 @@ cases_place (Some n) = inr (n, refl)
 pub some-known : (n : ℕ) (o : Option ℕ) → o ≡ Some n → o ≢ None
 some-known n o e h = none-some n (sym h ∙ e)
 
+pub is_some-known : (o : Option ℕ) → is_some o ≡ true → o ≢ None
+is_some-known None e h = false≢true e
+is_some-known (Some n) e h = none-some n (sym h)
+
+pub known-is_some : (o : Option ℕ) → o ≢ None → is_some o ≡ true
+known-is_some None h = absurd (h refl)
+known-is_some (Some n) h = refl
+
 pub not_some-none : (o : Option ℕ) → is_some o ≡ false → o ≡ None
 not_some-none None e = refl
 not_some-none (Some n) e = absurd (false≢true (sym e))

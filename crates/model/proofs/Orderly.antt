@@ -1,5 +1,5 @@
 -- After every list of calls to a lawful set, the uses that wait are in place, and the code is not too long.
-use Rattle.std.proofs.Common.{◌≡◌, ℕ, ◌+◌, ◌-◌, ◌%◌, ◌<◌, ◌≤◌, Bool, true, false, ◌&&◌, eqb, ltb, leb, List, [], ◌∷◌, ◌++◌, map, length, get_or, take, drop, set, pos, Some, None, Option, unwrap_or, sym, refl, ap, ◌∙◌, subst, ⊎_elim, append_assoc, arith, length-append, length-set, length-take}
+use Rattle.std.proofs.Common.{◌≡◌, ℕ, ◌+◌, ◌-◌, ◌%◌, ◌<◌, ◌≤◌, Bool, true, false, ◌&&◌, eqb, ltb, leb, List, [], ◌∷◌, ◌++◌, map, length, get_or, take, drop, set, pos, Some, None, Option, sym, refl, ap, ◌∙◌, subst, ⊎_elim, append_assoc, arith, length-append, length-set, length-take}
 use lib.IntN.{sub_ℕ}
 use lib.ListN.{length-replicate}
 use Rattle.std.specs.List.{AllByRecursion}
@@ -16,9 +16,9 @@ use Rattle.model.specs.declared.rows.Constant.{Constant}
 use Rattle.model.specs.declared.rows.DeferredTrap.{DeferredTrap}
 use Rattle.model.specs.declared.rows.PlacedConstant.{PlacedConstant}
 use Rattle.model.specs.Capacities.{max_code, max_branches, max_constants, max_requests, max_labels}
-use Rattle.model.specs.State.{State, unknown, empty, cur_offset, with_code, with_fresh, with_held, with_branches, with_requested, with_constants, with_deferred}
+use Rattle.model.specs.State.{State, empty, cur_offset, with_code, with_fresh, with_held, with_branches, with_requested, with_constants, with_deferred}
 use Rattle.model.specs.Code.{zeros, is_alignment, aligned, padded_to, overwritten}
-use Rattle.model.specs.Labels.{unbound, label_row, is_at, is_known, root, bound_at, bound_if, moved, aliased}
+use Rattle.model.specs.Labels.{unbound, label_row, is_at, root, bound_at, bound_if, moved, aliased}
 use Rattle.model.specs.Fixups.{fixup_at, insert_held}
 use Rattle.model.specs.Constants.{is_constant, constant_row, label_constant}
 use Rattle.model.specs.Simplify.{no_branch, no_fixup, last_branch, cut, redirect, relabelled, turned, bytes_of, turn}
@@ -91,18 +91,11 @@ bound_if_whole i ls None at h a = a
 bound_if_whole i ls (Some l) at h a = bound_whole i ls l at h a
 
 -- what a label resolves to
-place_whole : (i : Isa) (o : Option ℕ) → LabelWhole i o → is_known (unwrap_or o unknown) ≡ true → unwrap_or o unknown % i.align ≡ 0
-place_whole i None h e = absurd (false≢true e)
-place_whole i (Some at) h e = h
-
-row_whole : (i : Isa) (ls : List Label) (n : ℕ) → LabelsWhole i ls → LabelWhole i (label_row ls n).offset
-row_whole i ls n a = ⊎_elim
+pub resolved_whole : (i : Isa) (ls : List Label) (n : ℕ) → LabelsWhole i ls → LabelWhole i (label_row ls n).offset
+resolved_whole i ls n a = ⊎_elim
     (λ (l : n < length ls). All-get_or (λ (x : Label). LabelWhole i x.offset) ls n (unbound false) l a)
     (λ (l : length ls ≤ n). rw (get_or_past ls n (unbound false) l) tt)
     (cases_lt n (length ls))
-
-pub resolved_whole : (i : Isa) (ls : List Label) (n : ℕ) → LabelsWhole i ls → is_known (unwrap_or (label_row ls n).offset unknown) ≡ true → unwrap_or (label_row ls n).offset unknown % i.align ≡ 0
-resolved_whole i ls n a = place_whole i (label_row ls n).offset (row_whole i ls n a)
 
 moved_whole : (i : Isa) (from to : ℕ) → to % i.align ≡ 0 → (ls : List Label) → LabelsWhole i ls → LabelsWhole i (map (moved from to) ls)
 moved_whole i from to h ls a = All-map (λ (x : Label). LabelWhole i x.offset) (moved from to) ls (All-weaker _ _ (λ x p. cond_both (is_at from x.offset) (Some to) x.offset (LabelWhole i) (λ _. h) (λ _. p)) ls a)
@@ -330,7 +323,7 @@ module _ (i : Isa) (y : Lawful i) where
   bare_served s gs e = rw e tt
 
   near_rewritten : (s : State) (f : Fixup) (place : ℕ) → Orderly i s → InPlace i s.code f → Near i s f place → Rewritten s.code f place
-  near_rewritten s f place o p n = rewritten s.code f place p (rw n.resolves (resolved_whole i s.labels (root s.labels f.label) o.labels_whole (rw (← n.resolves) n.known))) n.ahead n.behind
+  near_rewritten s f place o p n = rewritten s.code f place p (subst (LabelWhole i) n.resolves (resolved_whole i s.labels (root s.labels f.label) o.labels_whole)) n.ahead n.behind
 
   veneer_whole : (s : State) (f : Fixup) (at : ℕ) → Veneered i s f at → at % i.align ≡ 0
   veneer_whole s f at v = rw v.behind_code (aligned_multiple i.align (cur_offset s) (some_alignment i y))

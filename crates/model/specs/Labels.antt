@@ -16,10 +16,6 @@ abbrev pub is_at : ℕ → Option ℕ → Bool
 is_at at None = false
 is_at at (Some n) = n == at
 
--- an offset that a label resolves to, and not what stands for none
-abbrev pub is_known : ℕ → Bool
-is_known n = not (n == unknown)
-
 -- the label at the end of at most so many aliases
 abbrev pub root_within : ℕ → List Label → ℕ → ℕ
 root_within zero ls l = l
@@ -29,9 +25,13 @@ root_within (suc n) ls l = unwrap_or (option_map (λ a. root_within n ls a) (lab
 abbrev pub root : List Label → ℕ → ℕ
 root ls l = root_within (length ls) ls l
 
--- the offset that a label resolves to, or `unknown` where it stands nowhere
+-- the offset that a label resolves to, if it resolves to one that stands somewhere
+abbrev pub place_of : List Label → ℕ → Option ℕ
+place_of ls l = (label_row ls (root ls l)).offset
+
+-- the same as a number, `unknown` where there is none
 abbrev pub offset_of : List Label → ℕ → ℕ
-offset_of ls l = unwrap_or (label_row ls (root ls l)).offset unknown
+offset_of ls l = unwrap_or (place_of ls l) unknown
 
 -- a label resolves to one that is unbound and not reserved, so that no island will bind it
 abbrev pub is_lost : List Label → ℕ → Bool
