@@ -1,4 +1,7 @@
 // The rows of a buffer's tables.
+ghost use Rattle.std.specs.Prelude.{◌≡◌};
+ghost use Rattle.model.specs.Labels.{unbound, moved, aliased};
+
 use crate::refusals::Refusal;
 
 /// Where a label is that stands nowhere, and the cap of deadlines.
@@ -13,6 +16,48 @@ pub struct Label {
     pub alias: Option<u32>,
     /// it is the label of a trap or a constant, which an island binds
     pub reserved: bool,
+}
+
+impl Label {
+    /// A new label.
+    pub fn unbound(reserved: bool) -> Label
+        ensures { result ≡ unbound reserved }
+    {
+        Label {
+            offset: None,
+            alias: None,
+            reserved,
+        }
+    }
+
+    /// The label, moved if it stands at an offset to another.
+    pub fn moved(self, from: u32, to: u32) -> Label
+        ensures { result ≡ moved from to self }
+    {
+        if self.offset == Some(from) {
+            Label {
+                offset: Some(to),
+                ..self
+            }
+        } else {
+            self
+        }
+    }
+
+    /// The label, if it stands at an offset no longer there, but an alias of another.
+    pub fn aliased(self, from: u32, target: u32) -> Label
+        ensures { result ≡ aliased from target self }
+    {
+        if self.offset == Some(from) {
+            Label {
+                offset: None,
+                alias: Some(target),
+                ..self
+            }
+        } else {
+            self
+        }
+    }
 }
 
 /// A use of a label that waits to be patched.
