@@ -1,5 +1,5 @@
 -- Where every label that is waited for is placed, each island shortens all chains of veneers, until nothing waits.
-use Rattle.std.proofs.Common.{◌≡◌, ℕ, zero, suc, ◌<◌, ◌≤◌, max, Bool, true, false, ◌⊎◌, List, [], ◌∷◌, ◌++◌, drop, sym, refl, ap, ◌∙◌, subst, inl, inr, append_assoc, append-nil, arith}
+use Rattle.std.proofs.Common.{◌≡◌, ℕ, zero, suc, ◌<◌, ◌≤◌, max, Bool, true, false, ◌⊎◌, List, [], ◌∷◌, ◌++◌, drop, is_some, sym, refl, ap, ◌∙◌, subst, inl, inr, append_assoc, append-nil, arith}
 use Rattle.std.specs.List.{AllByRecursion}
 use Rattle.std.proofs.ByRecursion.{All-push}
 use Rattle.std.proofs.lemmas.Bool.{both_ways, cases_lt, cond_both, or_left}
@@ -11,7 +11,7 @@ use Rattle.model.specs.declared.rows.DeferredTrap.{DeferredTrap}
 use Rattle.model.specs.declared.rows.Fate.{Fate}
 use Rattle.model.specs.declared.rows.Fate.TheVariants.{ToLabel, ToVeneer, Fails}
 use Rattle.model.specs.State.{State, with_branches}
-use Rattle.model.specs.Labels.{offset_of, is_known}
+use Rattle.model.specs.Labels.{place_of}
 use Rattle.model.specs.Fates.{fate, own_fixup}
 use Rattle.model.specs.Islands.{threshold, handled, is_ripe, less_fresh, less_held, fresh_step, fresh_pass, held_pass, reset_deadline, traps_pass, constants_pass, island}
 use Rattle.model.specs.Finish.{is_busy, islands_within, longest_below}
@@ -22,7 +22,7 @@ use Rattle.finish_laws.proofs.Fates.{Supported, fate_supported}
 pub record Low (i : Isa) (ls : List Label) (n : ℕ) (f : Fixup) : Type 0 where
   pub kind : f.kind < i.kinds
   pub short : i.chain f.kind < n
-  pub placed : is_known (offset_of ls f.label) ≡ true
+  pub placed : is_some (place_of ls f.label) ≡ true
 
 -- every use that waits is so, and nothing is pending
 pub record Settled (i : Isa) (ls : List Label) (n : ℕ) (s : State) : Type 0 where
@@ -54,7 +54,7 @@ record Later (i : Isa) (ls : List Label) (n : ℕ) (fs : List Fixup) (s : State)
 
 -- a placed label makes a fixup ripe
 ripe : (i : Isa) (ls : List Label) (n t : ℕ) (s : State) (f : Fixup) → s.labels ≡ ls → Low i ls n f → is_ripe i t s f ≡ true
-ripe i ls n t s f e l = or_left (is_known (offset_of s.labels f.label)) _ (rw e l.placed)
+ripe i ls n t s f e l = or_left (is_some (place_of s.labels f.label)) _ (rw e l.placed)
 
 module _ (i : Isa) (lawful : Lawful i) (ls : List Label) (n : ℕ) where
   own_low : (at : ℕ) (f : Fixup) → i.supports f.kind ≡ true → Low i ls (suc n) f → Low i ls n (own_fixup i f at)

@@ -1,19 +1,20 @@
 -- Finishing ends: the first island places every label that is waited for, and then chains fall.
-use Rattle.std.proofs.Common.{◌≡◌, ℕ, suc, ◌+◌, ◌<◌, Bool, true, false, not, eqb, ◌≢◌, ◌⊎◌, List, [], length, None, sym, refl, ◌∙◌, subst, inl, inr, arith}
+use Rattle.std.proofs.Common.{◌≡◌, ℕ, suc, ◌+◌, ◌<◌, Bool, true, false, not, ◌≢◌, ◌⊎◌, List, [], length, is_some, Some, None, is_none, sym, refl, ap, ◌∙◌, subst, inl, inr, arith}
 use Rattle.std.specs.List.{AllByRecursion}
 use Rattle.std.proofs.ByRecursion.{All-weaker}
-use Rattle.std.proofs.lemmas.Bool.{and_cases, cond_both, eqb-false, ne_eqb, not-false, not_from_false}
+use Rattle.std.proofs.lemmas.Bool.{and_cases, cond_both, not-false}
 use Rattle.isa.specs.Isa.{Isa}
 use Rattle.isa.specs.Laws.{Lawful}
 use Rattle.model.specs.declared.rows.Label.{Label}
 use Rattle.model.specs.declared.rows.Fixup.{Fixup}
 use Rattle.model.specs.declared.rows.Constant.{Constant}
-use Rattle.model.specs.State.{State, unknown}
-use Rattle.model.specs.Labels.{label_row, is_known, root, offset_of, is_lost}
+use Rattle.model.specs.State.{State}
+use Rattle.model.specs.Labels.{label_row, root, place_of, is_lost}
 use Rattle.model.specs.Fates.{own_fixup}
 use Rattle.model.specs.Islands.{island}
 use Rattle.model.specs.Finish.{is_busy, islands_within, longest_chain, all_islands, unfit}
 use Rattle.model.specs.Uses.{InPlace}
+use Rattle.model.proofs.Labels.{some-known, is_some-known, known-is_some}
 use Rattle.model.proofs.Orderly.{Orderly}
 use Rattle.model.proofs.Uses.{all_both}
 use Rattle.label_laws.specs.Leads.{Ends}
@@ -34,22 +35,22 @@ module _ (ls us : List Label) (cs : List Constant) (o : OrderlyLabels ls) (alike
   end_found : Ends ls l
   end_found = ends ls (orderly_within ls o) exists (o.ends l).1
 
-  still_unaliased : (label_row us (root ls l)).alias ≡ unknown
+  still_unaliased : (label_row us (root ls l)).alias ≡ None
   still_unaliased = alike.aliases (root ls l) ∙ end_found.unaliased
 
-  still_placed : NeverForward (label_row ls (root ls l)) (label_row us (root ls l)) → (label_row us (root ls l)).offset ≢ unknown
+  still_placed : NeverForward (label_row ls (root ls l)) (label_row us (root ls l)) → (label_row us (root ls l)).offset ≢ None
   still_placed (inl a) = absurd (a.aliased still_unaliased)
-  still_placed (inr p) = p.somewhere
+  still_placed (inr p) = some-known p.to _ p.stands
 
-  now_placed : (label_row ls (root ls l)).reserved ≡ true → (label_row us (root ls l)).offset ≢ unknown
+  now_placed : (label_row ls (root ls l)).reserved ≡ true → (label_row us (root ls l)).offset ≢ None
   now_placed e z = none (root ls l) tt (record { reserved = alike.reserved (root ls l) ∙ e; nowhere = z; unaliased = still_unaliased })
 
-  placed : (eqb (label_row ls (root ls l)).offset unknown ≡ false) ⊎ (not (label_row ls (root ls l)).reserved ≡ false) → (label_row us (root ls l)).offset ≢ unknown
-  placed (inl e) = still_placed ((later.moves (root ls l) end_found.exists).falls (eqb-false _ _ e))
+  placed : (is_none (label_row ls (root ls l)).offset ≡ false) ⊎ (not (label_row ls (root ls l)).reserved ≡ false) → (label_row us (root ls l)).offset ≢ None
+  placed (inl e) = still_placed ((later.moves (root ls l) end_found.exists).falls (is_some-known _ (not-false _ e)))
   placed (inr e) = now_placed (not-false _ e)
 
-  resolved : is_lost ls l ≡ false → is_known (offset_of us l) ≡ true
-  resolved e = subst (λ (m : ℕ). is_known (label_row us m).offset ≡ true) (sym (same-root ls us alike l)) (not_from_false _ (ne_eqb _ _ (placed (and_cases (eqb (label_row ls (root ls l)).offset unknown) _ e))))
+  resolved : is_lost ls l ≡ false → is_some (place_of us l) ≡ true
+  resolved e = subst (λ (m : ℕ). is_some (label_row us m).offset ≡ true) (sym (same-root ls us alike l)) (known-is_some _ (placed (and_cases (is_none (label_row ls (root ls l)).offset) _ e)))
 
 -- a use of a kind of the set, for a label of the table that is not lost
 record Ready (i : Isa) (ls : List Label) (f : Fixup) : Type 0 where
@@ -81,7 +82,7 @@ module _ (i : Isa) (lawful : Lawful i) (force : Bool) (s : State) (fit : Fit i s
       λ f y. record {
         kind = y.kind;
         short = omega (arith, within_longest i i.kinds f.kind y.kind);
-        placed = resolved s.labels r.labels r.constants fit.sound.labels w.labels g.later (rw (w.no_traps, w.no_constants) at k.all_pending) f.label y.exists y.not_lost;
+        placed = resolved s.labels r.labels r.constants fit.sound.labels w.labels g.later (rw (w.no_traps, w.no_constants) at k) f.label y.exists y.not_lost;
       } in
       record {
         labels = refl;

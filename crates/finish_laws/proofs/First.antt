@@ -1,5 +1,5 @@
 -- The first island: traps and constants are written, labels keep their aliases, and what waits is for the same labels.
-use Rattle.std.proofs.Common.{◌≡◌, ℕ, zero, suc, ◌+◌, Bool, true, ltb, List, [], ◌∷◌, length, drop, refl, ap, ◌∙◌, length-set}
+use Rattle.std.proofs.Common.{◌≡◌, ℕ, zero, suc, ◌+◌, Bool, true, ltb, List, [], ◌∷◌, length, drop, Some, None, Option, unwrap_or, option_map, refl, ap, ◌∙◌, length-set}
 use Rattle.std.specs.List.{AllByRecursion}
 use Rattle.std.proofs.ByRecursion.{All-drop, All-push}
 use Rattle.isa.specs.Isa.{Isa}
@@ -11,7 +11,7 @@ use Rattle.model.specs.declared.rows.Fate.TheVariants.{ToLabel, ToVeneer, Fails}
 use Rattle.model.specs.Capacities.{max_code}
 use Rattle.model.specs.State.{State, cur_offset, with_branches}
 use Rattle.model.specs.Code.{aligned}
-use Rattle.model.specs.Labels.{label_row, bound_at, root_within, root}
+use Rattle.model.specs.Labels.{label_row, bound_at, bound_if, root_within, root}
 use Rattle.model.specs.Fixups.{comes_before, insert_held}
 use Rattle.model.specs.Constants.{constant_row}
 use Rattle.model.specs.Fates.{fate, own_fixup}
@@ -34,10 +34,16 @@ bound_alike ls us l at a = record {
   reserved = λ k. set_field (λ (x : Label). x.reserved) us l k _ refl ∙ a.reserved k;
 }
 
+bound_if_alike : (ls us : List Label) (o : Option ℕ) (at : ℕ) → Alike ls us → Alike ls (bound_if us o at)
+bound_if_alike ls us None at a = a
+bound_if_alike ls us (Some l) at a = bound_alike ls us l at a
+
 -- they lead alike
 same-root_within : (ls us : List Label) → Alike ls us → (n l : ℕ) → root_within n us l ≡ root_within n ls l
 same-root_within ls us a zero l = refl
-same-root_within ls us a (suc n) l = rw (a.aliases l, same-root_within ls us a n (label_row ls l).alias)
+same-root_within ls us a (suc n) l = rw (a.aliases l)
+    (elim (label_row ls l).alias as (λ (o : Option ℕ). unwrap_or (option_map (λ x. root_within n us x) o) l ≡ unwrap_or (option_map (λ x. root_within n ls x) o) l)
+    [ None ↦ refl | Some x ↦ same-root_within ls us a n x ])
 
 pub same-root : (ls us : List Label) → Alike ls us → (l : ℕ) → root us l ≡ root ls l
 same-root ls us a l = rw a.long (same-root_within ls us a (length ls) l)
@@ -105,7 +111,7 @@ module _ (i : Isa) (Q : Fixup → Type 0) (owns : (f : Fixup) (at : ℕ) → i.s
       let at = aligned (constant_row s n).align (cur_offset s) in
       let m = w.midst in
       either (Brings (Placing ns)) (ltb max_code (at + (constant_row s n).size)) _ _ tt
-      (record { midst = record { fresh = m.fresh; held = m.held; labels = bound_alike ls s.labels (constant_row s n).label at m.labels }; no_traps = w.no_traps; left = ap (drop 1) w.left })
+      (record { midst = record { fresh = m.fresh; held = m.held; labels = bound_if_alike ls s.labels (constant_row s n).label at m.labels }; no_traps = w.no_traps; left = ap (drop 1) w.left })
 
   constants_pass_midst : (ns : List ℕ) (s : State) → Placing ns s → Brings (Placing []) (constants_pass ns s)
   constants_pass_midst [] s w = w

@@ -1,10 +1,11 @@
 -- Labels that an island has yet to bind, by edits of their table.
-use Rattle.std.proofs.Common.{◌≡◌, ℕ, zero, suc, ◌<◌, ◌≤◌, Bool, true, false, ◌≢◌, ◌⊎◌, List, [], ◌∷◌, ◌++◌, map, length, set, sym, refl, ap, ◌∙◌, subst, inl, inr, arith, length-set}
-use Rattle.std.proofs.lemmas.Bool.{cases_eq, cases_lt, eq-eqb, false≢true}
+use Rattle.std.proofs.Common.{◌≡◌, ℕ, zero, suc, ◌<◌, ◌≤◌, Bool, true, false, ◌≢◌, ◌⊎◌, List, [], ◌∷◌, ◌++◌, map, length, set, Some, None, Option, sym, refl, ap, ◌∙◌, subst, inl, inr, arith, length-set}
+use Rattle.std.proofs.lemmas.Bool.{cases_eq, cases_lt, false≢true}
+use Rattle.std.proofs.lemmas.Option.{none-some, same_Some}
 use Rattle.std.proofs.lemmas.List.{length_push, get_or_past, get_or_push, get_or_append_left, get_or-set_same}
 use Rattle.model.specs.declared.rows.Label.{Label}
-use Rattle.model.specs.State.{unknown}
-use Rattle.model.specs.Labels.{unbound, label_row, bound_at, moved, aliased}
+use Rattle.model.specs.Labels.{unbound, label_row, bound_at, bound_if, moved, aliased}
+use Rattle.model.proofs.Labels.{eq-is_at, cases_at}
 use Rattle.label_laws.proofs.Edits.{bound_row}
 use Rattle.label_laws.proofs.Moved.{moved_other, moved_row}
 use Rattle.label_laws.proofs.Redirected.{aliased_other, aliased_row}
@@ -12,8 +13,8 @@ use Rattle.label_laws.proofs.Redirected.{aliased_other, aliased_row}
 -- reserved, standing nowhere, and no alias
 pub record Unplaced (x : Label) : Type 0 where
   pub reserved : x.reserved ≡ true
-  pub nowhere : x.offset ≡ unknown
-  pub unaliased : x.alias ≡ unknown
+  pub nowhere : x.offset ≡ None
+  pub unaliased : x.alias ≡ None
 
 unreserved : (x : Label) → x.reserved ≡ false → Unplaced x → ⊥
 unreserved x e u = false≢true (sym e ∙ u.reserved)
@@ -56,18 +57,22 @@ set_field g (y ∷ ls) zero (suc k) x e = refl
 set_field g (y ∷ ls) (suc l) zero x e = refl
 set_field g (y ∷ ls) (suc l) (suc k) x e = set_field g ls l k x e
 
-pub bound_unplaced : (ls : List Label) (l at k : ℕ) → at ≢ unknown → Unplaced (label_row (bound_at ls l at) k) → (k ≢ l) × Unplaced (label_row ls k)
-bound_unplaced ls l at k known u = by (cases_eq k l)
+bound_unplaced : (ls : List Label) (l at k : ℕ) → Unplaced (label_row (bound_at ls l at) k) → (k ≢ l) × Unplaced (label_row ls k)
+bound_unplaced ls l at k u = by (cases_eq k l)
   where
-    here : l < length ls → (label_row (bound_at ls l at) l).offset ≡ at
+    here : l < length ls → (label_row (bound_at ls l at) l).offset ≡ Some at
     here h = ap (λ (x : Label). x.offset) (get_or-set_same ls l _ (unbound false) h)
 
     by : (k ≡ l) ⊎ (k ≡ l → ⊥) → (k ≢ l) × Unplaced (label_row ls k)
     by (inl e) =
         let v : Unplaced (label_row (bound_at ls l at) l) = subst (λ (j : ℕ). Unplaced (label_row (bound_at ls l at) j)) e u in
         let h : l < length ls = rw length-set at (unplaced_exists (bound_at ls l at) l v) in
-        absurd (known (sym (here h) ∙ v.nowhere))
+        absurd (none-some at (sym v.nowhere ∙ here h))
     by (inr n) = (n, subst Unplaced (bound_row ls l at k n) u)
+
+pub bound_if_unplaced : (ls : List Label) (o : Option ℕ) (at k : ℕ) → Unplaced (label_row (bound_if ls o at) k) → (o ≢ Some k) × Unplaced (label_row ls k)
+bound_if_unplaced ls None at k u = (none-some k, u)
+bound_if_unplaced ls (Some l) at k u = let b = bound_unplaced ls l at k u in (λ e. b.0 (sym (same_Some l k e)), b.1)
 
 pub free_unplaced : (ls : List Label) (l at k : ℕ) → (label_row ls l).reserved ≡ false → Unplaced (label_row (bound_at ls l at) k) → Unplaced (label_row ls k)
 free_unplaced ls l at k free u = by (cases_eq k l)
@@ -77,16 +82,16 @@ free_unplaced ls l at k free u = by (cases_eq k l)
     by (inr n) = subst Unplaced (bound_row ls l at k n) u
 
 -- labels moved, or made aliases
-pub moved_unplaced : (from to : ℕ) → from ≢ unknown → to ≢ unknown → (ls : List Label) (l : ℕ) → Unplaced (label_row (map (moved from to) ls) l) → Unplaced (label_row ls l)
-moved_unplaced from to known found ls l u = by (subst Unplaced (moved_row from to known ls l) u) (cases_eq (label_row ls l).offset from)
+pub moved_unplaced : (from to : ℕ) (ls : List Label) (l : ℕ) → Unplaced (label_row (map (moved from to) ls) l) → Unplaced (label_row ls l)
+moved_unplaced from to ls l u = by (subst Unplaced (moved_row from to ls l) u) (cases_at from (label_row ls l).offset)
   where
-    by : Unplaced (moved from to (label_row ls l)) → ((label_row ls l).offset ≡ from) ⊎ ((label_row ls l).offset ≡ from → ⊥) → Unplaced (label_row ls l)
-    by v (inl e) = let there : (moved from to (label_row ls l)).offset ≡ to = rw (eq-eqb (label_row ls l).offset from e) in absurd (found (sym there ∙ v.nowhere))
+    by : Unplaced (moved from to (label_row ls l)) → ((label_row ls l).offset ≡ Some from) ⊎ ((label_row ls l).offset ≢ Some from) → Unplaced (label_row ls l)
+    by v (inl e) = let there : (moved from to (label_row ls l)).offset ≡ Some to = rw (eq-is_at from (label_row ls l).offset e) in absurd (none-some to (sym v.nowhere ∙ there))
     by v (inr n) = subst Unplaced (moved_other from to (label_row ls l) n) v
 
-pub aliased_unplaced : (from target : ℕ) → from ≢ unknown → target ≢ unknown → (ls : List Label) (l : ℕ) → Unplaced (label_row (map (aliased from target) ls) l) → Unplaced (label_row ls l)
-aliased_unplaced from target known found ls l u = by (subst Unplaced (aliased_row from target known ls l) u) (cases_eq (label_row ls l).offset from)
+pub aliased_unplaced : (from target : ℕ) (ls : List Label) (l : ℕ) → Unplaced (label_row (map (aliased from target) ls) l) → Unplaced (label_row ls l)
+aliased_unplaced from target ls l u = by (subst Unplaced (aliased_row from target ls l) u) (cases_at from (label_row ls l).offset)
   where
-    by : Unplaced (aliased from target (label_row ls l)) → ((label_row ls l).offset ≡ from) ⊎ ((label_row ls l).offset ≡ from → ⊥) → Unplaced (label_row ls l)
-    by v (inl e) = let there : (aliased from target (label_row ls l)).alias ≡ target = rw (eq-eqb (label_row ls l).offset from e) in absurd (found (sym there ∙ v.unaliased))
+    by : Unplaced (aliased from target (label_row ls l)) → ((label_row ls l).offset ≡ Some from) ⊎ ((label_row ls l).offset ≢ Some from) → Unplaced (label_row ls l)
+    by v (inl e) = let there : (aliased from target (label_row ls l)).alias ≡ Some target = rw (eq-is_at from (label_row ls l).offset e) in absurd (none-some target (sym v.unaliased ∙ there))
     by v (inr n) = subst Unplaced (aliased_other from target (label_row ls l) n) v

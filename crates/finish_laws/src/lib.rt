@@ -8,44 +8,32 @@
 ghost use Rattle.finish_laws.specs.Laws.{FinishedIsDone, IslandsBounded, RefusedFinishKeeps, BrokenFinish, IslandsReachEnd, PoolKeeps};
 
 /// A finished buffer is done, whatever was called: no use waits, no trap is deferred and no constant requested.
-pub fn finished_is_done() -> u8
+pub fn finished_is_done()
     ensures { FinishedIsDone }
-{
-    0
-}
+{}
 
 /// Finishing makes as many islands as it answers: each where something waits or is pending, until nothing is, and at
 /// most two more than the longest chain of veneers.
-pub fn islands_bounded() -> u8
+pub fn islands_bounded()
     ensures { IslandsBounded }
-{
-    0
-}
+{}
 
 /// No bound cuts finishing short: with a larger one it does the same.
-pub fn islands_reach_end() -> u8
+pub fn islands_reach_end()
     ensures { IslandsReachEnd }
-{
-    0
-}
+{}
 
 /// Refused before any island, finishing changes nothing.
-pub fn refused_finish_keeps() -> u8
+pub fn refused_finish_keeps()
     ensures { RefusedFinishKeeps }
-{
-    0
-}
+{}
 
 /// Refused later, finishing broke off in an island, and the buffer is broken off.
-pub fn broken_finish() -> u8
+pub fn broken_finish()
     ensures { BrokenFinish }
-{
-    0
-}
+{}
 
 /// Copying the pool keeps the labels and the uses that wait.
-pub fn pool_keeps() -> u8
+pub fn pool_keeps()
     ensures { PoolKeeps }
-{
-    0
-}
+{}

@@ -1,11 +1,11 @@
 -- From the tables before an island to those within it, step by step.
-use Rattle.std.proofs.Common.{◌≡◌, ℕ, ◌+◌, ◌<◌, ◌≤◌, true, ◌⊎◌, List, length, get_or, take, drop, sym, ap, ◌∙◌, inl, inr, arith}
+use Rattle.std.proofs.Common.{◌≡◌, ℕ, ◌+◌, ◌<◌, ◌≤◌, true, ◌⊎◌, List, length, get_or, take, drop, Some, sym, ap, ◌∙◌, inl, inr, arith}
 use lib.IntN.{sub_ℕ}
 use Rattle.std.proofs.lemmas.List.{get_or-take, get_or-drop}
 use Rattle.isa.specs.Isa.{Isa}
 use Rattle.model.specs.declared.rows.Fixup.{Fixup}
 use Rattle.model.specs.State.{State, cur_offset}
-use Rattle.model.specs.Labels.{is_known, offset_of}
+use Rattle.model.specs.Labels.{place_of}
 use Rattle.model.specs.Fates.{own_fixup}
 use Rattle.model.specs.Uses.{Apart}
 use Rattle.island_laws.specs.Waiting.{Waits, use_bytes, InNoUse, StillWaits, Patched, VeneerAt, AtVeneer, Outcome, OfVeneer}
@@ -29,8 +29,9 @@ pub record Written (i : Isa) (s r : State) (f : Fixup) (to : ℕ) : Type 0 where
 
 -- to its label
 pub record ByLabel (i : Isa) (start s r : State) (f : Fixup) : Type 0 where
-  pub known : is_known (offset_of start.labels f.label) ≡ true
-  pub written : Written i s r f (offset_of start.labels f.label)
+  pub place : ℕ
+  pub stood : place_of start.labels f.label ≡ Some place
+  pub written : Written i s r f place
 
 -- to a veneer that is made in the same step
 pub record ByVeneer (i : Isa) (start s r : State) (f : Fixup) (at : ℕ) : Type 0 where
@@ -147,7 +148,7 @@ module _ {i : Isa} {start s r : State} {T : Fixup → Type 0} (z : Start i start
       beside n f (inr h) = inr h
 
       outcome_now : (f : Fixup) → T f → ByLabel i start s r f ⊎ ((at : ℕ) × ByVeneer i start s r f at) → Outcome i start r f
-      outcome_now f t (inl b) = inr (inl (record { known = b.known; patched = written_patched f _ t b.written }))
+      outcome_now f t (inl b) = inr (inl (record { place = b.place; stood = b.stood; patched = written_patched f _ t b.written }))
       outcome_now f t (inr b) = inr (inr (b.0, by_veneer f b.0 t b.1))
 
       still : (f : Fixup) → Waits start f → StillWaits i start s f → Waits r f → (Waits s f × ((h : Fixup) → T h → Apart i h f)) ⊎ NewOwn i start s r T f → Outcome i start r f
@@ -160,7 +161,7 @@ module _ {i : Isa} {start s r : State} {T : Fixup → Type 0} (z : Start i start
 
       outcome : (f : Fixup) → Waits start f → Outcome i start s f → Outcome i start r f
       outcome f w (inl a) = waits_on f w a (x.left f a.waits)
-      outcome f w (inr (inl a)) = inr (inl (record { known = a.known; patched = patched_kept f _ w a.patched }))
+      outcome f w (inr (inl a)) = inr (inl (record { place = a.place; stood = a.stood; patched = patched_kept f _ w a.patched }))
       outcome f w (inr (inr a)) = inr (inr (a.0, at_veneer_kept f a.0 w a.1))
 
       of_veneer : (g : Fixup) → OfVeneer i start s g → OfVeneer i start r g

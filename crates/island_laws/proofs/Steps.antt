@@ -1,5 +1,5 @@
 -- The steps of an island: one use is patched, to its label or to a new veneer, or code comes behind the code.
-use Rattle.std.proofs.Common.{◌≡◌, ℕ, ◌+◌, ◌-◌, ◌≤◌, ◌⊎◌, List, [], ◌∷◌, ◌++◌, length, take, drop, sym, refl, ap, ◌∙◌, subst, inl, inr, ⊎_elim, append_assoc, append-nil, arith, length-append}
+use Rattle.std.proofs.Common.{◌≡◌, ℕ, ◌+◌, ◌-◌, ◌≤◌, ◌⊎◌, List, [], ◌∷◌, ◌++◌, length, take, drop, Some, sym, refl, ap, ◌∙◌, subst, inl, inr, ⊎_elim, append_assoc, append-nil, arith, length-append}
 use lib.IntN.{sub_ℕ}
 use Rattle.std.specs.List.{ContainsAt, AllByRecursion}
 use Rattle.std.proofs.lemmas.List.{take_all, drop_at}
@@ -15,7 +15,7 @@ use Rattle.model.specs.Uses.{InPlace, EndsBefore, Apart, Uses}
 use Rattle.model.proofs.Passes.{Near, Veneered}
 use Rattle.model.proofs.Multiples.{aligned_multiple, some_alignment}
 use Rattle.model.proofs.Uses.{part_of_more, patchable}
-use Rattle.model.proofs.Orderly.{Orderly, resolved_whole}
+use Rattle.model.proofs.Orderly.{LabelWhole, Orderly, resolved_whole}
 use Rattle.island_laws.specs.Waiting.{Waits, use_bytes, VeneerAt}
 use Rattle.island_laws.proofs.Since.{Written, ByLabel, ByVeneer, NewOwn, Step}
 use Rattle.island_laws.proofs.Members.{has_later, has_cases}
@@ -62,7 +62,7 @@ grown i start s r more e on back = record {
 
 module _ (i : Isa) (y : Lawful i) (start s r : State) (f : Fixup) (o : Orderly i s) (old : Waits start f) (waited : Waits s f) (p : InPlace i s.code f) where
   near_patchable : (place : ℕ) → Near i s f place → Patchable i f.kind (use_bytes i s f) (sub_ℕ place f.offset)
-  near_patchable place n = patchable i s.code f place p (rw n.resolves (resolved_whole i s.labels (root s.labels f.label) o.labels_whole (rw (← n.resolves) n.known))) n.ahead n.behind
+  near_patchable place n = patchable i s.code f place p (subst (LabelWhole i) n.resolves (resolved_whole i s.labels (root s.labels f.label) o.labels_whole)) n.ahead n.behind
 
   veneer_patchable : (at : ℕ) → Veneered i s f at → Patchable i f.kind (use_bytes i s f) (sub_ℕ at f.offset)
   veneer_patchable at v = patchable i s.code f at p (rw v.behind_code (aligned_multiple i.align (cur_offset s) (some_alignment i y))) v.ahead (omega (arith, v.behind_code, p.within))
@@ -72,8 +72,7 @@ module _ (i : Isa) (y : Lawful i) (start s r : State) (f : Fixup) (o : Orderly i
   patched_step place labels n e m =
       let q = near_patchable place n in
       let c : r.code ≡ patch_fixup i s f place ++ [] = e ∙ sym (append-nil (patch_fixup i s f place)) in
-      let same_place : place ≡ offset_of start.labels f.label = n.resolves ∙ rw labels in
-      let b : ByLabel i start s r f = record { known = rw (← same_place) n.known; written = subst (Written i s r f) same_place (patch_written i y s f place [] p.within q r c) } in
+      let b : ByLabel i start s r f = record { place = place; stood = rw labels at n.resolves; written = patch_written i y s f place [] p.within q r c } in
       record {
         longer = rw (e, patch_long i y s f place [] p.within q) (omega arith);
         same = λ from k h apart. ap (λ (code : List ℕ). take k (drop from code)) c ∙ patch_same i y s f place [] p.within q from k h (apart f refl);

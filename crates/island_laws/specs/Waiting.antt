@@ -1,11 +1,11 @@
 -- The uses that wait, before an island and after it.
-use Rattle.std.specs.Prelude.{◌≡◌, ℕ, ◌+◌, ◌%◌, ◌<◌, ◌≤◌, true, ◌⊎◌, List, length, take, drop, slice_index}
+use Rattle.std.specs.Prelude.{◌≡◌, ℕ, ◌+◌, ◌%◌, ◌<◌, ◌≤◌, true, ◌⊎◌, List, length, take, drop, Some, slice_index}
 use Rattle.std.proofs.Math.IntN.{sub_ℕ}
 use Rattle.std.specs.List.{ContainsAt}
 use Rattle.isa.specs.Isa.{Isa, bytes_at}
 use Rattle.model.specs.declared.rows.Fixup.{Fixup}
 use Rattle.model.specs.State.{State, cur_offset}
-use Rattle.model.specs.Labels.{is_known, offset_of}
+use Rattle.model.specs.Labels.{place_of}
 use Rattle.model.specs.Fates.{own_fixup}
 use Rattle.model.specs.Uses.{Apart}
 
@@ -35,8 +35,9 @@ pub record Patched (i : Isa) (s r : State) (f : Fixup) (to : ℕ) : Type 0 where
 
 -- a use is patched to its label, which stood there before
 pub record AtLabel (i : Isa) (s r : State) (f : Fixup) : Type 0 where
-  pub known : is_known (offset_of s.labels f.label) ≡ true
-  pub patched : Patched i s r f (offset_of s.labels f.label)
+  pub place : ℕ
+  pub stood : place_of s.labels f.label ≡ Some place
+  pub patched : Patched i s r f place
 
 -- A veneer for a use stands whole at an aligned offset behind the code of before, and its own use waits.
 pub record VeneerAt (i : Isa) (s r : State) (f : Fixup) (at : ℕ) : Type 0 where

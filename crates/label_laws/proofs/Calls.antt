@@ -1,21 +1,22 @@
 -- Every call keeps the tables sound, and no label goes forward.
-use Rattle.std.proofs.Common.{◌≡◌, ℕ, ◌+◌, ◌<◌, Bool, true, false, cond, ◌||◌, leb, List, [], ◌∷◌, ◌++◌, length, Some, None, Option, refl, arith}
+use Rattle.std.proofs.Common.{◌≡◌, ℕ, ◌+◌, ◌<◌, Bool, true, false, cond, ◌||◌, leb, List, [], ◌∷◌, ◌++◌, length, is_some, Some, None, Option, refl, arith}
 use Rattle.std.proofs.lemmas.Bool.{leb-false, ltb-false, or_parts, not-false, eqb-true, cond_both}
 use Rattle.std.proofs.ByRecursion.{All-push}
 use Rattle.isa.specs.Isa.{Isa}
 use Rattle.isa.specs.Patches.{inversion}
 use Rattle.model.specs.declared.refusals.Refusal.{Refusal}
 use Rattle.model.specs.Capacities.{max_labels}
-use Rattle.model.specs.State.{State, unknown, cur_offset, with_constants, with_deferred, with_requested}
+use Rattle.model.specs.State.{State, cur_offset, with_constants, with_deferred, with_requested}
 use Rattle.model.specs.Full.{no_room, labels_full}
-use Rattle.model.specs.Labels.{label_row, is_known}
+use Rattle.model.specs.Labels.{label_row}
 use Rattle.model.specs.Constants.{constant_row, label_constant}
 use Rattle.model.specs.Simplify.{simplified}
-use Rattle.model.specs.Calls.{no_label, add_label, is_taken, bind, append_use, append_branch, is_jump, get_label, bind_label, put_data, align_to, use_label_at_offset, add_branch, defer_trap, register_constant, get_label_for_constant, optimize_branches, start_patchable, close}
+use Rattle.model.specs.Calls.{no_label, add_label, is_taken, bind, append_use, append_branch, is_jump, get_label, bind_label, put_data, align_to, use_label_at_offset, add_branch, defer_trap, register_constant, request, get_label_for_constant, optimize_branches, start_patchable, close}
 use Rattle.model.specs.Progress.{Progress}
 use Rattle.model.specs.Islands.{island, ended, emit_island}
 use Rattle.model.specs.Finish.{longest_chain, all_islands, unfit, concluded, finish_unless}
 use Rattle.model.specs.Steps.{Call, GetLabel, BindLabel, PutData, AlignTo, UseLabelAtOffset, AddUncondBranch, AddCondBranch, DeferTrap, RegisterConstant, GetLabelForConstant, OptimizeBranches, StartPatchable, EndPatchable, EmitIsland, Finish, CurOffset, ResolveLabelOffset, IslandNeeded, step}
+use Rattle.model.proofs.Labels.{not_some-none}
 use Rattle.label_laws.specs.Sound.{UseAmong, BranchAmong, Sound, Goes}
 use Rattle.label_laws.proofs.Edits.{pushed_keeps, bound_keeps}
 use Rattle.label_laws.proofs.Tables.{registered, labelled, trap_deferred, constant_requested, bound}
@@ -65,31 +66,37 @@ defer_trap_gives : (s : State) (trap : ℕ) → Sound s → Gives s (defer_trap 
 defer_trap_gives s trap k = search (unless, gives_if, trap_gives) depth 12
 
 -- constants
-registered_gives : {X : Type 0} (s : State) (x : X) (size align : ℕ) → Sound s → Gives s (x, with_constants s (s.constants ++ record { size = size; align = align; label = unknown } ∷ []))
+registered_gives : {X : Type 0} (s : State) (x : X) (size align : ℕ) → Sound s → Gives s (x, with_constants s (s.constants ++ record { size = size; align = align; label = None } ∷ []))
 registered_gives s x size align k = record { holds = goes_beside s _ k (registered s.labels s.branches s.fresh s.held s.deferred s.constants s.requested size align k) refl }
 
 register_constant_gives : (i : Isa) (s : State) (size align : ℕ) → Sound s → Gives s (register_constant i s size align)
 register_constant_gives i s size align k = search (unless, gives_if, registered_gives) depth 12
 
-requested_gives : {X : Type 0} (s : State) (x : X) (n : ℕ) → leb (length s.constants) n ≡ false → is_known (constant_row s n).label ≡ false → labels_full s ≡ false → Sound s
-    → Gives s (x, with_requested (with_constants (add_label s true) (label_constant s n (length s.labels))) (s.requested ++ n ∷ []))
+requested_gives : {X : Type 0} (s : State) (x : X) (n : ℕ) → n < length s.constants → (constant_row s n).label ≡ None → labels_full s ≡ false → Sound s
+    → Gives s (x, with_requested (with_constants (add_label s true) (label_constant s n (Some (length s.labels)))) (s.requested ++ n ∷ []))
 requested_gives s x n exists free e k = record {
   holds = record {
-    sound = constant_requested s.labels s.branches s.fresh s.held s.deferred s.constants s.requested n (constant_row s n).size (constant_row s n).align (leb-false _ _ exists) (eqb-true _ _ (not-false _ free)) (not_full s e) k;
+    sound = constant_requested s.labels s.branches s.fresh s.held s.deferred s.constants s.requested n (constant_row s n).size (constant_row s n).align exists free (not_full s e) k;
     later = (pushed_keeps s.labels true (not_full s e) k.labels).later;
   };
 }
 
+request_gives : (o : Option ℕ) (s : State) (n : ℕ) → (constant_row s n).label ≡ o → n < length s.constants → Sound s → Gives s (request o s n)
+request_gives (Some l) s n free exists k = search gives_if
+request_gives None s n free exists k = search (unless, gives_if, requested_gives) depth 12
+
 get_label_for_constant_gives : (s : State) (n : ℕ) → Sound s → Gives s (get_label_for_constant s n)
-get_label_for_constant_gives s n k = search (unless, gives_if, requested_gives) depth 12
+get_label_for_constant_gives s n k =
+    let asked : leb (length s.constants) n ≡ false → Gives s (request (constant_row s n).label s n) = λ e. request_gives (constant_row s n).label s n refl (leb-false _ _ e) k in
+    search (unless, gives_if) depth 12
 
 -- a label is bound
 bind_goes : (s : State) (l : ℕ) → is_taken s l ≡ false → Sound s → Goes s (bind s l)
 bind_goes s l free k =
-    let a = or_parts (is_known (label_row s.labels l).offset || is_known (label_row s.labels l).alias) _ free in
-    let b = or_parts (is_known (label_row s.labels l).offset) _ a.0 in
-    let nowhere : (label_row s.labels l).offset ≡ unknown = eqb-true _ _ (not-false _ b.0) in
-    let plain : (label_row s.labels l).alias ≡ unknown = eqb-true _ _ (not-false _ b.1) in
+    let a = or_parts (is_some (label_row s.labels l).offset || is_some (label_row s.labels l).alias) _ free in
+    let b = or_parts (is_some (label_row s.labels l).offset) _ a.0 in
+    let nowhere : (label_row s.labels l).offset ≡ None = not_some-none _ b.0 in
+    let plain : (label_row s.labels l).alias ≡ None = not_some-none _ b.1 in
     record {
       sound = bound s.labels s.branches s.fresh s.held s.deferred s.constants s.requested l (cur_offset s) nowhere plain a.1 k;
       later = (bound_keeps s.labels l (cur_offset s) nowhere plain k.labels).later;

@@ -1,11 +1,10 @@
 -- Edits of one label keep a table orderly, and no label goes forward.
-use Rattle.std.proofs.Common.{◌≡◌, ℕ, zero, suc, ◌+◌, ◌<◌, Bool, false, ◌≢◌, ◌⊎◌, List, [], ◌∷◌, ◌++◌, map, length, get_or, set, sym, refl, ap, subst, inl, inr, arith, length-set}
+use Rattle.std.proofs.Common.{◌≡◌, ℕ, zero, suc, ◌+◌, ◌<◌, Bool, false, ◌≢◌, ◌⊎◌, List, [], ◌∷◌, ◌++◌, map, length, get_or, set, Some, None, sym, refl, ap, subst, inl, inr, arith, length-set}
 use Rattle.std.proofs.lemmas.Bool.{cases_eq}
 use Rattle.std.proofs.lemmas.List.{length_push, get_or_append_left, get_or-set_same, get_or-set_other}
 use Rattle.std.proofs.ByRecursion.{All-push, All-set, All-weaker}
 use Rattle.model.specs.declared.rows.Label.{Label}
 use Rattle.model.specs.Capacities.{max_labels}
-use Rattle.model.specs.State.{unknown}
 use Rattle.model.specs.Labels.{unbound, label_row, bound_at}
 use Rattle.label_laws.specs.Moves.{Moves, Later}
 use Rattle.label_laws.specs.Sound.{Row, Orderly}
@@ -25,7 +24,7 @@ pushed_alias r (x ∷ ls) (suc l) = pushed_alias r ls l
 
 wider : (n : ℕ) (x : Label) → Row n x → Row (n + 1) x
 wider n x (inl e) = inl e
-wider n x (inr r) = inr (omega (arith, r.0), r.1)
+wider n x (inr r) = inr (record { to = r.to; alias = r.alias; among = omega (arith, r.among); nowhere = r.nowhere })
 
 pub pushed_row : (ls : List Label) (r : Bool) (l : ℕ) → l < length ls → label_row (ls ++ unbound r ∷ []) l ≡ label_row ls l
 pushed_row ls r l h = get_or_append_left ls (unbound r ∷ []) (unbound false) l h
@@ -54,7 +53,7 @@ set_alias (y ∷ ls) (suc l) (suc k) x e = set_alias ls l k x e
 pub bound_row : (ls : List Label) (l at k : ℕ) → k ≢ l → label_row (bound_at ls l at) k ≡ label_row ls k
 bound_row ls l at k h = get_or-set_other ls l k _ (unbound false) h
 
-pub bound_keeps : (ls : List Label) (l at : ℕ) → (label_row ls l).offset ≡ unknown → (label_row ls l).alias ≡ unknown → Orderly ls → Keeps ls (bound_at ls l at)
+pub bound_keeps : (ls : List Label) (l at : ℕ) → (label_row ls l).offset ≡ None → (label_row ls l).alias ≡ None → Orderly ls → Keeps ls (bound_at ls l at)
 bound_keeps ls l at nowhere plain o = record {
   orderly = record {
     few = rw length-set o.few;

@@ -1,69 +1,72 @@
 -- Following aliases: as many steps as there are labels are enough, since a way that ends has no label twice.
-use Rattle.std.proofs.Common.{◌≡◌, ℕ, zero, suc, ◌-◌, ◌<◌, ◌≤◌, eqb, ◌≢◌, List, length, sym, refl, ap, ◌∙◌, subst, arith}
-use Rattle.std.proofs.lemmas.Bool.{cond-true, cond-false, cond_both, eq-eqb, ne_eqb, eqb-false}
+use Rattle.std.proofs.Common.{◌≡◌, ℕ, zero, suc, ◌-◌, ◌<◌, ◌≤◌, List, length, Some, None, Option, unwrap_or, option_map, sym, refl, ap, ◌∙◌, subst, ⊎_elim, arith}
+use Rattle.std.proofs.lemmas.Option.{none-some, same_Some}
 use Rattle.model.specs.declared.rows.Label.{Label}
-use Rattle.model.specs.State.{unknown}
 use Rattle.model.specs.Labels.{label_row, root_within, root}
+use Rattle.model.proofs.Labels.{cases_place}
 use Rattle.label_laws.specs.Leads.{Leads, here, on, Ends}
 use Rattle.label_laws.proofs.Pigeonhole.{pigeonhole}
 
 -- the aliases of a table are labels of it
 abbrev pub Within : List Label → Type 0
-Within ls = (l : ℕ) → (label_row ls l).alias ≢ unknown → (label_row ls l).alias < length ls
+Within ls = (l a : ℕ) → (label_row ls l).alias ≡ Some a → a < length ls
 
 module _ (ls : List Label) where
   -- a label that is no alias stays, and one that is leads further
-  stays : (n l : ℕ) → (label_row ls l).alias ≡ unknown → root_within n ls l ≡ l
+  stays : (n l : ℕ) → (label_row ls l).alias ≡ None → root_within n ls l ≡ l
   stays zero l h = refl
-  stays (suc n) l h = cond-true _ _ _ (eq-eqb _ _ h)
+  stays (suc n) l h = ap (λ (o : Option ℕ). unwrap_or (option_map (λ a. root_within n ls a) o) l) h
 
-  goes_on : (n l : ℕ) → (label_row ls l).alias ≢ unknown → root_within (suc n) ls l ≡ root_within n ls (label_row ls l).alias
-  goes_on n l h = cond-false _ _ _ (ne_eqb _ _ h)
+  goes_on : (n l a : ℕ) → (label_row ls l).alias ≡ Some a → root_within (suc n) ls l ≡ root_within n ls a
+  goes_on n l a h = ap (λ (o : Option ℕ). unwrap_or (option_map (λ b. root_within n ls b) o) l) h
 
   -- how many aliases a way has
   steps : {l m : ℕ} → Leads ls l m → ℕ
   steps (here h) = 0
-  steps (on h p) = suc (steps p)
+  steps (on a h p) = suc (steps p)
 
   -- two ways from one label are as long, and end at one label
   one_length : {l m k n : ℕ} → l ≡ k → (p : Leads ls l m) (q : Leads ls k n) → steps p ≡ steps q
   unfolding steps
   one_length e (here h) (here k) = refl
-  one_length e (here h) (on k q) = absurd (k (ap (λ (x : ℕ). (label_row ls x).alias) (sym e) ∙ h))
-  one_length e (on h p) (here k) = absurd (h (ap (λ (x : ℕ). (label_row ls x).alias) e ∙ k))
-  one_length e (on h p) (on k q) = ap suc (one_length (ap (λ (x : ℕ). (label_row ls x).alias) e) p q)
+  one_length e (here h) (on a k q) = absurd (none-some a (sym h ∙ (ap (λ (x : ℕ). (label_row ls x).alias) e ∙ k)))
+  one_length e (on a h p) (here k) = absurd (none-some a (sym k ∙ (ap (λ (x : ℕ). (label_row ls x).alias) (sym e) ∙ h)))
+  one_length e (on a h p) (on b k q) = ap suc (one_length (same_Some a b (sym h ∙ (ap (λ (x : ℕ). (label_row ls x).alias) e ∙ k))) p q)
 
   one_end : {l m k n : ℕ} → l ≡ k → Leads ls l m → Leads ls k n → m ≡ n
   one_end e (here h) (here k) = e
-  one_end e (here h) (on k q) = absurd (k (ap (λ (x : ℕ). (label_row ls x).alias) (sym e) ∙ h))
-  one_end e (on h p) (here k) = absurd (h (ap (λ (x : ℕ). (label_row ls x).alias) e ∙ k))
-  one_end e (on h p) (on k q) = one_end (ap (λ (x : ℕ). (label_row ls x).alias) e) p q
+  one_end e (here h) (on a k q) = absurd (none-some a (sym h ∙ (ap (λ (x : ℕ). (label_row ls x).alias) e ∙ k)))
+  one_end e (on a h p) (here k) = absurd (none-some a (sym k ∙ (ap (λ (x : ℕ). (label_row ls x).alias) (sym e) ∙ h)))
+  one_end e (on a h p) (on b k q) = one_end (same_Some a b (sym h ∙ (ap (λ (x : ℕ). (label_row ls x).alias) e ∙ k))) p q
 
   -- where a way ends is no alias
-  pub end_unaliased : {l m : ℕ} → Leads ls l m → (label_row ls m).alias ≡ unknown
+  pub end_unaliased : {l m : ℕ} → Leads ls l m → (label_row ls m).alias ≡ None
   end_unaliased (here h) = h
-  end_unaliased (on h p) = end_unaliased p
+  end_unaliased (on a h p) = end_unaliased p
 
   -- the rest of a way
   rest : (n : ℕ) {l m : ℕ} (p : Leads ls l m) → (q : Leads ls (root_within n ls l) m) × (steps q ≡ steps p - n)
   unfolding steps
   rest zero p = (p, omega arith)
   rest (suc n) {l} {m} (here h) = subst (λ (x : ℕ). (q : Leads ls x l) × (steps q ≡ 0 - suc n)) (sym (stays (suc n) l h)) (here h, omega arith)
-  rest (suc n) {l} {m} (on h p) =
+  rest (suc n) {l} {m} (on a h p) =
       let r = rest n p in
-      subst (λ (x : ℕ). (q : Leads ls x m) × (steps q ≡ suc (steps p) - suc n)) (sym (goes_on n l h)) (r.0, omega (arith, r.1))
+      subst (λ (x : ℕ). (q : Leads ls x m) × (steps q ≡ suc (steps p) - suc n)) (sym (goes_on n l a h)) (r.0, omega (arith, r.1))
 
   -- a way is followed to its end
   reached : (n : ℕ) {l m : ℕ} (p : Leads ls l m) → steps p ≤ n → root_within n ls l ≡ m
   unfolding steps
   reached n {l} (here h) k = stays n l h
-  reached zero (on h p) k = let z : ⊥ = omega arith in absurd z
-  reached (suc n) {l} (on h p) k = goes_on n l h ∙ reached n p (omega arith)
+  reached zero (on a h p) k = let z : ⊥ = omega arith in absurd z
+  reached (suc n) {l} (on a h p) k = goes_on n l a h ∙ reached n p (omega arith)
 
   -- aliases followed stay in the table
   stays_within : Within ls → (n l : ℕ) → l < length ls → root_within n ls l < length ls
   stays_within w zero l h = h
-  stays_within w (suc n) l h = cond_both (eqb (label_row ls l).alias unknown) l _ (λ x. x < length ls) (λ e. h) (λ e. stays_within w n (label_row ls l).alias (w l (eqb-false _ _ e)))
+  stays_within w (suc n) l h = ⊎_elim
+      (λ (e : (label_row ls l).alias ≡ None). rw (stays (suc n) l e) h)
+      (λ (r : (a : ℕ) × ((label_row ls l).alias ≡ Some a)). rw (goes_on n l r.0 r.1) (stays_within w n r.0 (w l r.0 r.1)))
+      (cases_place (label_row ls l).alias)
 
   short : {l m : ℕ} → Within ls → l < length ls → (p : Leads ls l m) → steps p < length ls
   short {l} w h p =

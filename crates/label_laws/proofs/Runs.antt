@@ -1,10 +1,10 @@
 -- The laws of every list of calls.
-use Rattle.std.proofs.Common.{◌≡◌, ℕ, ◌<◌, ◌≤◌, false, ◌≢◌, ◌⊎◌, List, [], ◌∷◌, ◌++◌, length, sym, refl, ap, subst, inl, inr, arith}
+use Rattle.std.proofs.Common.{◌≡◌, ℕ, ◌<◌, ◌≤◌, false, ◌≢◌, ◌⊎◌, List, None, [], ◌∷◌, ◌++◌, length, sym, refl, ap, subst, inl, inr, arith}
 use Rattle.std.proofs.lemmas.Bool.{cases_lt}
 use Rattle.std.proofs.lemmas.List.{get_or_past}
 use Rattle.isa.specs.Isa.{Isa}
 use Rattle.model.specs.declared.rows.Label.{Label}
-use Rattle.model.specs.State.{unknown, empty}
+use Rattle.model.specs.State.{empty}
 use Rattle.model.specs.Labels.{unbound, label_row}
 use Rattle.model.specs.Steps.{Call}
 use Rattle.model.specs.Runs.{Run, begun, next, run_from, run}
@@ -51,7 +51,7 @@ run-later i cs ds = subst (λ (r : Run). Later (labels_after i cs) r.state.label
 pub aliases_end : (i : Isa) (cs : List Call) (l : ℕ) → l < length (labels_after i cs) → Ends (labels_after i cs) l
 aliases_end i cs l h = let o = (run_sound i cs).labels in ends (labels_after i cs) (orderly_within (labels_after i cs) o) h (o.ends l).1
 
-pub never_forward : (i : Isa) (cs ds : List Call) (l : ℕ) → (label_row (labels_after i cs) l).offset ≢ unknown → NeverForward (label_row (labels_after i cs) l) (label_row (labels_after i (cs ++ ds)) l)
+pub never_forward : (i : Isa) (cs ds : List Call) (l : ℕ) → (label_row (labels_after i cs) l).offset ≢ None → NeverForward (label_row (labels_after i cs) l) (label_row (labels_after i (cs ++ ds)) l)
 never_forward i cs ds l h = by (cases_lt l (length (labels_after i cs)))
   where
     by : (l < length (labels_after i cs)) ⊎ (length (labels_after i cs) ≤ l) → NeverForward (label_row (labels_after i cs) l) (label_row (labels_after i (cs ++ ds)) l)

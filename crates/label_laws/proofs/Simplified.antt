@@ -1,5 +1,5 @@
 -- Simplifying keeps the tables sound, and no label goes forward.
-use Rattle.std.proofs.Common.{◌≡◌, ℕ, zero, suc, ◌-◌, ◌<◌, ◌≤◌, Bool, true, false, ◌&&◌, ◌||◌, eqb, ltb, ◌≢◌, ◌⊎◌, List, [], map, length, get_or, sym, refl, ap, ◌∙◌, inl, inr, arith}
+use Rattle.std.proofs.Common.{◌≡◌, ℕ, zero, suc, ◌-◌, ◌<◌, ◌≤◌, Bool, true, false, ◌&&◌, ◌||◌, eqb, ltb, ◌≢◌, ◌⊎◌, List, [], map, length, get_or, Option, unwrap_or, sym, refl, ap, ◌∙◌, inl, inr, arith}
 use lib.ListN.{length-map}
 use Rattle.std.specs.List.{AllByRecursion}
 use Rattle.std.proofs.lemmas.Bool.{cases_lt, cond_both, and_parts, or_parts, ltb-true, eqb-true, eqb-false}
@@ -13,17 +13,17 @@ use Rattle.model.specs.Simplify.{no_branch, last_branch, target_of, has_labels, 
 use Rattle.model.proofs.Cases.{either}
 use Rattle.label_laws.specs.Sound.{BranchAmong, UseAmong, Waits, Sound, Goes}
 use Rattle.label_laws.proofs.Edits.{Keeps}
-use Rattle.label_laws.proofs.Moved.{moved_other, moved_row, moved_keeps}
-use Rattle.label_laws.proofs.Redirected.{aliased_other, aliased_row, aliased_keeps}
+use Rattle.label_laws.proofs.Moved.{moved_row, moved_keeps}
+use Rattle.label_laws.proofs.Redirected.{aliased_row, aliased_keeps}
 use Rattle.label_laws.proofs.Tables.{tables_kept}
 use Rattle.label_laws.proofs.Goes.{goes_same, goes_on, goes_beside}
 
 -- labels that wait stand nowhere, and stay as they are
-waits_moved : (from to : ℕ) → from ≢ unknown → (ls : List Label) (l : ℕ) → Waits ls l → Waits (map (moved from to) ls) l
-waits_moved from to h ls l w = record { exists = rw length-map w.exists; row = moved_row from to h ls l ∙ ap (moved from to) w.row ∙ moved_other from to (unbound true) (λ z. h (sym z)) }
+waits_moved : (from to : ℕ) (ls : List Label) (l : ℕ) → Waits ls l → Waits (map (moved from to) ls) l
+waits_moved from to ls l w = record { exists = rw length-map w.exists; row = moved_row from to ls l ∙ ap (moved from to) w.row }
 
-waits_aliased : (from target : ℕ) → from ≢ unknown → (ls : List Label) (l : ℕ) → Waits ls l → Waits (map (aliased from target) ls) l
-waits_aliased from target h ls l w = record { exists = rw length-map w.exists; row = aliased_row from target h ls l ∙ ap (aliased from target) w.row ∙ aliased_other from target (unbound true) (λ z. h (sym z)) }
+waits_aliased : (from target : ℕ) (ls : List Label) (l : ℕ) → Waits ls l → Waits (map (aliased from target) ls) l
+waits_aliased from target ls l w = record { exists = rw length-map w.exists; row = aliased_row from target ls l ∙ ap (aliased from target) w.row }
 
 -- what a round takes
 record Taken (s : State) : Type 0 where
@@ -42,12 +42,10 @@ last_among s t k = All-get_or (BranchAmong (length s.labels)) s.branches (length
 cut_goes : (s : State) → Taken s → Sound s → Goes s (cut s)
 cut_goes s t k =
     let b = last_among s t k in
-    let known : cur_offset s ≢ unknown = λ e. let z : ⊥ = omega (arith, b.room, t.at_end) in z in
-    let found : (last_branch s).start ≢ unknown = λ e. let z : ⊥ = omega (arith, b.room, b.forward) in z in
-    let m : Keeps s.labels (cut s).labels = moved_keeps s.labels (cur_offset s) (last_branch s).start known found (omega (arith, b.forward, t.at_end)) k.labels in
+    let m : Keeps s.labels (cut s).labels = moved_keeps s.labels (cur_offset s) (last_branch s).start (omega (arith, b.forward, t.at_end)) k.labels in
     let n = length s.labels in
     record {
-      sound = tables_kept s.labels (cut s).labels (cut s).branches (cut s).fresh s.held m s.deferred s.constants s.requested (waits_moved (cur_offset s) (last_branch s).start known s.labels) (record {
+      sound = tables_kept s.labels (cut s).labels (cut s).branches (cut s).fresh s.held m s.deferred s.constants s.requested (waits_moved (cur_offset s) (last_branch s).start s.labels) (record {
         labels = k.labels;
         branches = All-take (BranchAmong n) (length s.branches - 1) s.branches k.branches;
         fresh = All-take (UseAmong n) (length s.fresh - 1) s.fresh k.fresh;
@@ -61,10 +59,9 @@ cut_goes s t k =
 redirect_goes : (s : State) → Taken s → target_of s (last_branch s) ≢ (last_branch s).start → Sound s → Goes s (redirect s)
 redirect_goes s t elsewhere k =
     let b = last_among s t k in
-    let known : (last_branch s).start ≢ unknown = λ e. let z : ⊥ = omega (arith, b.room, b.forward) in z in
-    let m : Keeps s.labels (redirect s).labels = aliased_keeps s.labels (last_branch s).start (last_branch s).target known b.target k.labels elsewhere in
+    let m : Keeps s.labels (redirect s).labels = aliased_keeps s.labels (last_branch s).start (last_branch s).target b.target k.labels (λ e. elsewhere (ap (λ (o : Option ℕ). unwrap_or o unknown) e)) in
     record {
-      sound = tables_kept s.labels (redirect s).labels s.branches s.fresh s.held m s.deferred s.constants s.requested (waits_aliased (last_branch s).start (last_branch s).target known s.labels) k;
+      sound = tables_kept s.labels (redirect s).labels s.branches s.fresh s.held m s.deferred s.constants s.requested (waits_aliased (last_branch s).start (last_branch s).target s.labels) k;
       later = m.later;
     }
 

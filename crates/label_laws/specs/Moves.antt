@@ -1,19 +1,21 @@
 -- How labels may move.
-use Rattle.std.specs.Prelude.{◌≡◌, ℕ, ◌<◌, ◌≤◌, ◌≢◌, ◌⊎◌, List, length}
+use Rattle.std.specs.Prelude.{◌≡◌, ℕ, ◌<◌, ◌≤◌, ◌≢◌, ◌⊎◌, List, length, Some, None}
 use Rattle.model.specs.declared.rows.Label.{Label}
-use Rattle.model.specs.State.{unknown}
 use Rattle.model.specs.Labels.{label_row}
 
 -- it has become an alias, and stands nowhere
 pub record IsAlias (after : Label) : Type 0 where
-  pub aliased : after.alias ≢ unknown
-  pub nowhere : after.offset ≡ unknown
+  pub aliased : after.alias ≢ None
+  pub nowhere : after.offset ≡ None
 
 -- it stands where it stood, or at a lower offset
 pub record StandsNoLater (before after : Label) : Type 0 where
-  pub unaliased : after.alias ≡ unknown
-  pub somewhere : after.offset ≢ unknown
-  pub no_later : after.offset ≤ before.offset
+  pub from : ℕ
+  pub to : ℕ
+  pub unaliased : after.alias ≡ None
+  pub stood : before.offset ≡ Some from
+  pub stands : after.offset ≡ Some to
+  pub no_later : to ≤ from
 
 -- what may become of a label that stands somewhere
 abbrev pub NeverForward : Label → Label → Type 0
@@ -21,8 +23,8 @@ NeverForward before after = IsAlias after ⊎ StandsNoLater before after
 
 -- what may become of any label: an alias never changes
 pub record Moves (before after : Label) : Type 0 where
-  pub stays : before.alias ≢ unknown → after ≡ before
-  pub falls : before.offset ≢ unknown → NeverForward before after
+  pub stays : before.alias ≢ None → after ≡ before
+  pub falls : before.offset ≢ None → NeverForward before after
   pub reserved : after.reserved ≡ before.reserved
 
 -- a table of labels and a later one

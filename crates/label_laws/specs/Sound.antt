@@ -1,5 +1,5 @@
 -- What holds of labels, and of the tables that name them, after every call.
-use Rattle.std.specs.Prelude.{◌≡◌, ℕ, ◌<◌, ◌≤◌, true, ◌≢◌, ◌⊎◌, List, [], ◌∷◌, ◌++◌, map, length, slice_index_or}
+use Rattle.std.specs.Prelude.{◌≡◌, ℕ, ◌<◌, ◌≤◌, true, ◌≢◌, ◌⊎◌, List, [], ◌∷◌, ◌++◌, map, length, Some, None, Option, IsSomeAnd, slice_index_or}
 use Rattle.std.specs.List.{AllByRecursion}
 use Rattle.model.specs.declared.rows.Label.{Label}
 use Rattle.model.specs.declared.rows.Fixup.{Fixup}
@@ -7,14 +7,21 @@ use Rattle.model.specs.declared.rows.Branch.{Branch}
 use Rattle.model.specs.declared.rows.DeferredTrap.{DeferredTrap}
 use Rattle.model.specs.declared.rows.Constant.{Constant}
 use Rattle.model.specs.Capacities.{max_code, max_labels}
-use Rattle.model.specs.State.{State, unknown}
+use Rattle.model.specs.State.{State}
 use Rattle.model.specs.Labels.{unbound, label_row}
 use Rattle.label_laws.specs.Leads.{Leads}
 use Rattle.label_laws.specs.Moves.{Later}
 
--- a row among n labels: no alias, or an alias of one of them, which stands nowhere
+-- an alias of one of n labels, which stands nowhere
+pub record AliasAmong (n : ℕ) (x : Label) : Type 0 where
+  pub to : ℕ
+  pub alias : x.alias ≡ Some to
+  pub among : to < n
+  pub nowhere : x.offset ≡ None
+
+-- a row among n labels: no alias, or an alias of one of them
 abbrev pub Row : ℕ → Label → Type 0
-Row n x = (x.alias ≡ unknown) ⊎ ((x.alias < n) × (x.offset ≡ unknown))
+Row n x = (x.alias ≡ None) ⊎ AliasAmong n x
 
 -- a table of labels, of which each leads to one that is no alias
 pub record Orderly (ls : List Label) : Type 0 where
@@ -37,16 +44,20 @@ pub record Waits (ls : List Label) (l : ℕ) : Type 0 where
   pub exists : l < length ls
   pub row : label_row ls l ≡ unbound true
 
+-- a label is there, and waits
+abbrev pub Awaited : List Label → Option ℕ → Type 0
+Awaited ls o = IsSomeAnd o (Waits ls)
+
 -- the label under which a constant is pending
-abbrev pub label_of : List Constant → ℕ → ℕ
-label_of cs n = (slice_index_or cs n (record { size = 0; align = 1; label = unknown })).label
+abbrev pub label_of : List Constant → ℕ → Option ℕ
+label_of cs n = (slice_index_or cs n (record { size = 0; align = 1; label = None })).label
 
 -- the labels of the deferred traps and of the requested constants
-abbrev pub pending : List DeferredTrap → List Constant → List ℕ → List ℕ
-pending ds cs ns = map (λ (d : DeferredTrap). d.label) ds ++ map (label_of cs) ns
+abbrev pub pending : List DeferredTrap → List Constant → List ℕ → List (Option ℕ)
+pending ds cs ns = map (λ (d : DeferredTrap). Some d.label) ds ++ map (label_of cs) ns
 
--- no number comes twice
-abbrev pub Distinct : List ℕ → Type 0
+-- none comes twice
+abbrev pub Distinct : {X : Type 0} → List X → Type 0
 Distinct [] = Unit {0}
 Distinct (x ∷ xs) = AllByRecursion (λ y. y ≢ x) xs × Distinct xs
 
@@ -57,7 +68,7 @@ pub record Tables (ls : List Label) (bs : List Branch) (fs hs : List Fixup) (ds 
   pub branches : AllByRecursion (BranchAmong (length ls)) bs
   pub fresh : AllByRecursion (UseAmong (length ls)) fs
   pub held : AllByRecursion (UseAmong (length ls)) hs
-  pub waits : AllByRecursion (Waits ls) (pending ds cs ns)
+  pub waits : AllByRecursion (Awaited ls) (pending ds cs ns)
   pub apart : Distinct (pending ds cs ns)
 
 -- the tables of a buffer

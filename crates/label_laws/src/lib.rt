@@ -9,16 +9,12 @@ ghost use Rattle.label_laws.specs.Laws.{AliasesEnd, LabelsNeverMoveForward};
 
 /// Aliases have no cycle: after every list of calls, each label leads along its aliases to one label that is no alias,
 /// and that is the one that the definitions find.
-pub fn aliases_end() -> u8
+pub fn aliases_end()
     ensures { AliasesEnd }
-{
-    0
-}
+{}
 
 /// Labels never move forward: whatever is called, a label that stands at an offset stands at no larger one afterwards,
 /// or has become an alias.
-pub fn labels_never_move_forward() -> u8
+pub fn labels_never_move_forward()
     ensures { LabelsNeverMoveForward }
-{
-    0
-}
+{}

@@ -6,7 +6,8 @@ use Rattle.model.specs.declared.refusals.Refusal.{Refusal}
 use Rattle.model.specs.State.{State}
 use Rattle.model.specs.Fixups.{waiting}
 use Rattle.model.specs.Simplify.{simplified, cuts}
-use Rattle.model.specs.Calls.{bind, append_use, append_branch, is_jump, get_label, bind_label, put_data, align_to, use_label_at_offset, add_branch, defer_trap, register_constant, get_label_for_constant, optimize_branches, start_patchable, close}
+use Rattle.model.specs.Constants.{constant_row}
+use Rattle.model.specs.Calls.{bind, append_use, append_branch, is_jump, get_label, bind_label, put_data, align_to, use_label_at_offset, add_branch, defer_trap, register_constant, request, get_label_for_constant, optimize_branches, start_patchable, close}
 use Rattle.model.specs.Progress.{Progress}
 use Rattle.model.specs.Islands.{island, ended, emit_island}
 use Rattle.model.specs.Finish.{longest_chain, all_islands, unfit, concluded, finish_unless}
@@ -48,8 +49,12 @@ defer_trap_quiet s trap k = search (quiet_either, quiet_if) depth 9
 register_constant_quiet : (i : Isa) (s : State) (size align : ℕ) → Sound s → Quiet s (register_constant i s size align)
 register_constant_quiet i s size align k = search (quiet_either, quiet_if) depth 9
 
+request_quiet : (o : Option ℕ) (s : State) (n : ℕ) → Sound s → Quiet s (request o s n)
+request_quiet (Some l) s n k = search quiet_if
+request_quiet None s n k = search (quiet_either, quiet_if) depth 9
+
 get_label_for_constant_quiet : (s : State) (n : ℕ) → Sound s → Quiet s (get_label_for_constant s n)
-get_label_for_constant_quiet s n k = search (quiet_either, quiet_if) depth 9
+get_label_for_constant_quiet s n k = let r = request_quiet (constant_row s n).label s n k in search (quiet_either, quiet_if) depth 9
 
 start_patchable_quiet : (s : State) → Sound s → Quiet s (start_patchable s)
 start_patchable_quiet s k = search (quiet_either, quiet_if) depth 9

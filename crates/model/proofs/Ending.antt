@@ -1,5 +1,5 @@
 -- Simplifying ends: each rule that applies takes a branch away, or makes a label that stands somewhere an alias.
-use Rattle.std.proofs.Common.{◌≡◌, ℕ, zero, suc, ◌+◌, ◌-◌, ◌<◌, ◌≤◌, Bool, true, false, cond, ◌&&◌, eqb, ltb, List, [], ◌∷◌, map, length, Result, refl, ap, ◌∙◌, arith, length-set, length-take}
+use Rattle.std.proofs.Common.{◌≡◌, ℕ, zero, suc, ◌+◌, ◌-◌, ◌<◌, ◌≤◌, Bool, true, false, cond, ◌&&◌, eqb, ltb, List, [], ◌∷◌, map, length, is_some, Some, None, Option, Result, refl, ap, ◌∙◌, arith, length-set, length-take}
 use Rattle.std.proofs.ByRecursion.{All-get_or}
 use Rattle.std.proofs.lemmas.List.Sums.{sum_by-cons}
 use Rattle.std.proofs.lemmas.Bool.{ltb-true, false≢true, cond-true, cond-false, cond_both}
@@ -9,8 +9,8 @@ use Rattle.model.specs.declared.refusals.Refusal.{Refusal}
 use Rattle.model.specs.declared.rows.Branch.{Branch}
 use Rattle.model.specs.declared.rows.Label.{Label}
 use Rattle.model.specs.Capacities.{max_code}
-use Rattle.model.specs.State.{State, unknown, cur_offset, is_open, with_branches}
-use Rattle.model.specs.Labels.{is_known, moved, aliased, standing, bound_count}
+use Rattle.model.specs.State.{State, cur_offset, is_open, with_branches}
+use Rattle.model.specs.Labels.{is_at, moved, aliased, standing, bound_count}
 use Rattle.model.specs.Simplify.{no_branch, last_branch, has_labels, cut, redirect, turn, round, rounds, all_rounds, forgotten, simplified}
 use Rattle.model.specs.Calls.{optimize_branches}
 use Rattle.model.specs.Steps.{OptimizeBranches, step}
@@ -22,24 +22,26 @@ use Rattle.model.proofs.Steady.{Steady, last_stands, rules_keep_steady}
 abbrev one : Bool → ℕ
 one b = cond b 1 0
 
-moved_one : (from to : ℕ) → from < unknown → (x : Label) → one (is_known (moved from to x).offset) ≤ one (is_known x.offset)
-moved_one from to h x = grind (arith, nat_tests)
+moved_one : (from to : ℕ) (o : Option ℕ) → one (is_some (cond (is_at from o) (Some to) o)) ≤ one (is_some o)
+moved_one from to None = omega arith
+moved_one from to (Some n) = either (λ (r : Option ℕ). one (is_some r) ≤ 1) (eqb n from) _ _ (omega arith) (omega arith)
 
-aliased_one : (at target : ℕ) → at < unknown → (x : Label) → one (is_known (aliased at target x).offset) + one (eqb x.offset at) ≤ one (is_known x.offset)
-aliased_one at target h x = grind (arith, nat_tests)
+aliased_one : (at : ℕ) (o : Option ℕ) → one (is_some (cond (is_at at o) None o)) + one (is_at at o) ≤ one (is_some o)
+aliased_one at None = omega arith
+aliased_one at (Some n) = elim (eqb n at) as (λ b. one (is_some (cond b None (Some n))) + one b ≤ 1) [ true ↦ omega arith | false ↦ omega arith ]
 
-bound_moved : (from to : ℕ) → from < unknown → (xs : List Label) → bound_count (map (moved from to) xs) ≤ bound_count xs
-bound_moved from to h [] = omega arith
-bound_moved from to h (x ∷ xs) =
-    let count : Label → ℕ = λ y. one (is_known y.offset) in
-    omega (arith, bound_moved from to h xs, moved_one from to h x, sum_by-cons count x xs, sum_by-cons count (moved from to x) (map (moved from to) xs))
+bound_moved : (from to : ℕ) (xs : List Label) → bound_count (map (moved from to) xs) ≤ bound_count xs
+bound_moved from to [] = omega arith
+bound_moved from to (x ∷ xs) =
+    let count : Label → ℕ = λ y. one (is_some y.offset) in
+    omega (arith, bound_moved from to xs, moved_one from to x.offset, sum_by-cons count x xs, sum_by-cons count (moved from to x) (map (moved from to) xs))
 
-bound_aliased : (at target : ℕ) → at < unknown → (xs : List Label) → bound_count (map (aliased at target) xs) + standing at xs ≤ bound_count xs
-bound_aliased at target h [] = omega arith
-bound_aliased at target h (x ∷ xs) =
-    let count : Label → ℕ = λ y. one (is_known y.offset) in
-    let here : Label → ℕ = λ y. one (eqb y.offset at) in
-    omega (arith, bound_aliased at target h xs, aliased_one at target h x, sum_by-cons count x xs, sum_by-cons count (aliased at target x) (map (aliased at target) xs), sum_by-cons here x xs)
+bound_aliased : (at target : ℕ) (xs : List Label) → bound_count (map (aliased at target) xs) + standing at xs ≤ bound_count xs
+bound_aliased at target [] = omega arith
+bound_aliased at target (x ∷ xs) =
+    let count : Label → ℕ = λ y. one (is_some y.offset) in
+    let here : Label → ℕ = λ y. one (is_at at y.offset) in
+    omega (arith, bound_aliased at target xs, aliased_one at x.offset, sum_by-cons count x xs, sum_by-cons count (aliased at target x) (map (aliased at target) xs), sum_by-cons here x xs)
 
 -- the standing branches and the labels that stand somewhere, together
 abbrev pub rank : State → ℕ
@@ -52,7 +54,7 @@ low s k t = rw (← t.at_end) (All-get_or (λ (b : Branch). b.end ≤ max_code) 
 cut_falls : (s : State) → Steady s → Taken s → rank (cut s) < rank s
 cut_falls s k t =
     let c = low s k t in
-    let m = bound_moved (cur_offset s) (last_branch s).start (omega arith) s.labels in
+    let m = bound_moved (cur_offset s) (last_branch s).start s.labels in
     let n = length-take (length s.branches - 1) s.branches in
     omega (arith, t.some)
 
@@ -60,7 +62,7 @@ redirect_falls : (s : State) → Steady s → Taken s → has_labels s ≡ true 
 redirect_falls s k t h =
     let b = last_stands s k t in
     let c = low s k t in
-    let m = bound_aliased (last_branch s).start (last_branch s).target (omega arith) s.labels in
+    let m = bound_aliased (last_branch s).start (last_branch s).target s.labels in
     omega (arith, ltb-true _ _ h)
 
 turn_falls : (s : State) (n l : ℕ) → Steady s → Taken s → rank (turn (cut s) n l) < rank s

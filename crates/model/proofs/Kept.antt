@@ -12,14 +12,13 @@ use Rattle.model.specs.declared.rows.Fixup.{Fixup}
 use Rattle.model.specs.declared.rows.DeferredTrap.{DeferredTrap}
 use Rattle.model.specs.declared.refusals.Refusal.{Refusal}
 use Rattle.model.specs.Capacities.{max_code, max_labels, max_fixups, max_branches, max_traps, max_constants, max_requests, max_regions}
-use Rattle.model.specs.State.{State, unknown, cur_offset, is_open, with_code, with_fresh, with_held, with_branches, with_deferred, with_constants, with_requested, with_regions, with_opened, with_broken, empty}
+use Rattle.model.specs.State.{State, cur_offset, is_open, with_code, with_fresh, with_held, with_branches, with_deferred, with_constants, with_requested, with_regions, with_opened, with_broken, empty}
 use Rattle.model.specs.Code.{zeros, padding, aligned, is_alignment}
 use Rattle.model.specs.Full.{no_room, labels_full, fixups_full, branches_full, traps_full, constants_full, requests_full, regions_full}
-use Rattle.model.specs.Labels.{is_known}
 use Rattle.model.specs.Fixups.{waiting, insert_held}
 use Rattle.model.specs.Constants.{is_constant, constant_row, label_constant}
 use Rattle.model.specs.Simplify.{simplified}
-use Rattle.model.specs.Calls.{no_label, misaligned, add_label, is_taken, bind, add_trap, is_zero, is_use, append_use, append_branch, is_jump, is_unconditional, region_from, get_label, bind_label, put_data, align_to, use_label_at_offset, add_branch, defer_trap, register_constant, get_label_for_constant, optimize_branches, start_patchable, close}
+use Rattle.model.specs.Calls.{no_label, misaligned, add_label, is_taken, bind, add_trap, is_zero, is_use, append_use, append_branch, is_jump, is_unconditional, region_from, get_label, bind_label, put_data, align_to, use_label_at_offset, add_branch, defer_trap, register_constant, request, get_label_for_constant, optimize_branches, start_patchable, close}
 use Rattle.model.specs.Progress.{Progress}
 use Rattle.model.specs.Fates.{patch_fixup, add_veneer}
 use Rattle.model.specs.Islands.{reset_deadline, write_trap, place_constant, island, ended, emit_island}
@@ -49,7 +48,7 @@ pub record Fits (i : Isa) (s : State) (l k : ℕ) (bytes : List ℕ) : Type 0 wh
 -- what was found out before a constant is requested
 pub record Unrequested (s : State) (n : ℕ) : Type 0 where
   pub exists : n < length s.constants
-  pub free : (constant_row s n).label ≡ unknown
+  pub free : (constant_row s n).label ≡ None
 
 -- What a call may do, one thing after another, and that a property P of the tables outlasts it. Islands have no standing
 -- branches. After finishing, R holds.
@@ -61,8 +60,8 @@ pub record Kept (i : Isa) (P R : State → Type 0) : Type 0 where
   pub used : (s : State) (l k : ℕ) (bytes : List ℕ) → P s → Fits i s l k bytes → (i.adds k ≡ true → i.reads k bytes ≡ pos 0) → P (append_use i s l k bytes)
   pub branched : (s : State) (conditional : Bool) (l k : ℕ) (bytes inverted : List ℕ) → P s → Fits i s l k bytes → length inverted ≡ i.size k → is_branch (i.role k bytes) ≡ true → length s.branches < max_branches → P (append_branch i s conditional l k bytes inverted)
   pub trap_deferred : (s : State) (trap : ℕ) → P s → length s.traps + length s.deferred < max_traps → length s.labels < max_labels → P (with_deferred (add_label s true) (s.deferred ++ record { label = length s.labels; code = trap } ∷ []))
-  pub registered : (s : State) (size align : ℕ) → P s → is_constant i size align ≡ true → length s.constants < max_constants → P (with_constants s (s.constants ++ record { size = size; align = align; label = unknown } ∷ []))
-  pub requested : (s : State) (n : ℕ) → P s → Unrequested s n → length s.requested + length s.placed < max_requests → length s.labels < max_labels → P (with_requested (with_constants (add_label s true) (label_constant s n (length s.labels))) (s.requested ++ n ∷ []))
+  pub registered : (s : State) (size align : ℕ) → P s → is_constant i size align ≡ true → length s.constants < max_constants → P (with_constants s (s.constants ++ record { size = size; align = align; label = None } ∷ []))
+  pub requested : (s : State) (n : ℕ) → P s → Unrequested s n → length s.requested + length s.placed < max_requests → length s.labels < max_labels → P (with_requested (with_constants (add_label s true) (label_constant s n (Some (length s.labels)))) (s.requested ++ n ∷ []))
   pub opened : (s : State) → P s → length s.regions < max_regions → P (with_opened s (Some (cur_offset s)))
   pub closed : (s : State) (start : ℕ) → P s → s.opened ≡ Some start → P (with_regions (with_opened s None) (s.regions ++ region_from s start ∷ []))
   pub forgot : (s : State) → P s → P (with_branches s [])
@@ -166,10 +165,15 @@ module _ {i : Isa} {P R : State → Type 0} (w : Kept i P R) where
       unless P s.broken _ s _ p (λ _. unless P (not (is_constant i size align)) _ s _ p (λ e. unless P (constants_full s) _ s _ p (λ full.
       record { holds = w.registered s size align p (not-false _ e) (leb-false _ _ full) })))
 
+  requested_keeps : (o : Option ℕ) (s : State) (n : ℕ) → (constant_row s n).label ≡ o → n < length s.constants → P s → After P (request o s n)
+  requested_keeps (Some l) s n free h p = record { holds = p }
+  requested_keeps None s n free h p =
+      unless P (requests_full s) _ s _ p (λ many. unless P (labels_full s) _ s _ p (λ full.
+      record { holds = w.requested s n p (record { exists = h; free = free }) (leb-false _ _ many) (leb-false _ _ full) }))
+
   request_keeps : (s : State) (n : ℕ) → P s → After P (get_label_for_constant s n)
   request_keeps s n p =
-      unless P s.broken _ s _ p (λ _. unless P (leb (length s.constants) n) _ s _ p (λ e. unless P (is_known (constant_row s n).label) _ s _ p (λ free. unless P (requests_full s) _ s _ p (λ many. unless P (labels_full s) _ s _ p (λ full.
-      record { holds = w.requested s n p (record { exists = leb-false _ _ e; free = eqb-true _ _ (not-false _ free) }) (leb-false _ _ many) (leb-false _ _ full) })))))
+      unless P s.broken _ s _ p (λ _. unless P (leb (length s.constants) n) _ s _ p (λ e. requested_keeps (constant_row s n).label s n refl (leb-false _ _ e) p))
 
   optimize_keeps : (s : State) (skip : Bool) → P s → After P (optimize_branches s skip)
   optimize_keeps s skip p = unless P s.broken _ s _ p (λ _. unless P (is_open s) _ s _ p (λ _. record { holds = simplified_keeps skip s p }))

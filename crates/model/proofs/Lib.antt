@@ -1,3 +1,4 @@
+pub mod Labels
 pub mod Cases
 pub mod Standing
 pub mod Passes

@@ -1,5 +1,5 @@
 -- After every list of calls to a lawful set, the uses that wait are in place, and the code is not too long.
-use Rattle.std.proofs.Common.{◌≡◌, ℕ, ◌+◌, ◌-◌, ◌%◌, ◌<◌, ◌≤◌, Bool, true, false, ◌&&◌, eqb, ltb, leb, List, [], ◌∷◌, ◌++◌, map, length, get_or, take, drop, set, pos, sym, refl, ap, ◌∙◌, subst, ⊎_elim, append_assoc, arith, length-append, length-set, length-take}
+use Rattle.std.proofs.Common.{◌≡◌, ℕ, ◌+◌, ◌-◌, ◌%◌, ◌<◌, ◌≤◌, Bool, true, false, ◌&&◌, eqb, ltb, leb, List, [], ◌∷◌, ◌++◌, map, length, get_or, take, drop, set, pos, Some, None, Option, sym, refl, ap, ◌∙◌, subst, ⊎_elim, append_assoc, arith, length-append, length-set, length-take}
 use lib.IntN.{sub_ℕ}
 use lib.ListN.{length-replicate}
 use Rattle.std.specs.List.{AllByRecursion}
@@ -16,9 +16,9 @@ use Rattle.model.specs.declared.rows.Constant.{Constant}
 use Rattle.model.specs.declared.rows.DeferredTrap.{DeferredTrap}
 use Rattle.model.specs.declared.rows.PlacedConstant.{PlacedConstant}
 use Rattle.model.specs.Capacities.{max_code, max_branches, max_constants, max_requests, max_labels}
-use Rattle.model.specs.State.{State, unknown, empty, cur_offset, with_code, with_fresh, with_held, with_branches, with_requested, with_constants, with_deferred}
+use Rattle.model.specs.State.{State, empty, cur_offset, with_code, with_fresh, with_held, with_branches, with_requested, with_constants, with_deferred}
 use Rattle.model.specs.Code.{zeros, is_alignment, aligned, padded_to, overwritten}
-use Rattle.model.specs.Labels.{unbound, label_row, is_known, root, bound_at, moved, aliased}
+use Rattle.model.specs.Labels.{unbound, label_row, is_at, root, bound_at, bound_if, moved, aliased}
 use Rattle.model.specs.Fixups.{fixup_at, insert_held}
 use Rattle.model.specs.Constants.{is_constant, constant_row, label_constant}
 use Rattle.model.specs.Simplify.{no_branch, no_fixup, last_branch, cut, redirect, relabelled, turned, bytes_of, turn}
@@ -40,8 +40,9 @@ use Rattle.model.proofs.Multiples.{sum_multiple, multiple_of, aligned_multiple, 
 use Rattle.model.proofs.Uses.{part_appended, patchable, order_at, uses_more, uses_append, uses_put_aside, uses_fresh_done, uses_held_done, uses_cut, uses_turned}
 
 -- a label stands at a multiple of the alignment, or nowhere
-abbrev pub LabelWhole : Isa → ℕ → Type 0
-LabelWhole i offset = is_known offset ≡ true → offset % i.align ≡ 0
+abbrev pub LabelWhole : Isa → Option ℕ → Type 0
+LabelWhole i None = Unit {0}
+LabelWhole i (Some at) = at % i.align ≡ 0
 
 abbrev pub LabelsWhole : Isa → List Label → Type 0
 LabelsWhole i ls = AllByRecursion (λ (x : Label). LabelWhole i x.offset) ls
@@ -77,29 +78,30 @@ pub record Orderly (i : Isa) (s : State) : Type 0 where
   pub uses : Uses i s.code s.held s.fresh
   pub served : AllByRecursion (Served i s.fresh) s.branches
 
-unknown_whole : (i : Isa) → LabelWhole i unknown
-unknown_whole i e = absurd (false≢true e)
-
 -- a new label
 unbound_whole : (i : Isa) (ls : List Label) (reserved : Bool) → LabelsWhole i ls → LabelsWhole i (ls ++ unbound reserved ∷ [])
-unbound_whole i ls reserved a = All-push (λ (x : Label). LabelWhole i x.offset) ls (unbound reserved) a (unknown_whole i)
+unbound_whole i ls reserved a = All-push (λ (x : Label). LabelWhole i x.offset) ls (unbound reserved) a tt
 
 -- a label that is bound
 bound_whole : (i : Isa) (ls : List Label) (l at : ℕ) → at % i.align ≡ 0 → LabelsWhole i ls → LabelsWhole i (bound_at ls l at)
-bound_whole i ls l at h a = All-set (λ (x : Label). LabelWhole i x.offset) ls l _ (λ _. h) a
+bound_whole i ls l at h a = All-set (λ (x : Label). LabelWhole i x.offset) ls l _ h a
+
+bound_if_whole : (i : Isa) (ls : List Label) (o : Option ℕ) (at : ℕ) → at % i.align ≡ 0 → LabelsWhole i ls → LabelsWhole i (bound_if ls o at)
+bound_if_whole i ls None at h a = a
+bound_if_whole i ls (Some l) at h a = bound_whole i ls l at h a
 
 -- what a label resolves to
 pub resolved_whole : (i : Isa) (ls : List Label) (n : ℕ) → LabelsWhole i ls → LabelWhole i (label_row ls n).offset
 resolved_whole i ls n a = ⊎_elim
     (λ (l : n < length ls). All-get_or (λ (x : Label). LabelWhole i x.offset) ls n (unbound false) l a)
-    (λ (l : length ls ≤ n). rw (get_or_past ls n (unbound false) l) (unknown_whole i))
+    (λ (l : length ls ≤ n). rw (get_or_past ls n (unbound false) l) tt)
     (cases_lt n (length ls))
 
 moved_whole : (i : Isa) (from to : ℕ) → to % i.align ≡ 0 → (ls : List Label) → LabelsWhole i ls → LabelsWhole i (map (moved from to) ls)
-moved_whole i from to h ls a = All-map (λ (x : Label). LabelWhole i x.offset) (moved from to) ls (All-weaker _ _ (λ x p. cond_both (eqb x.offset from) to x.offset (LabelWhole i) (λ _ _. h) (λ _. p)) ls a)
+moved_whole i from to h ls a = All-map (λ (x : Label). LabelWhole i x.offset) (moved from to) ls (All-weaker _ _ (λ x p. cond_both (is_at from x.offset) (Some to) x.offset (LabelWhole i) (λ _. h) (λ _. p)) ls a)
 
 aliased_whole : (i : Isa) (from target : ℕ) (ls : List Label) → LabelsWhole i ls → LabelsWhole i (map (aliased from target) ls)
-aliased_whole i from target ls a = All-map (λ (x : Label). LabelWhole i x.offset) (aliased from target) ls (All-weaker _ _ (λ x p. cond_both (eqb x.offset from) unknown x.offset (LabelWhole i) (λ _. unknown_whole i) (λ _. p)) ls a)
+aliased_whole i from target ls a = All-map (λ (x : Label). LabelWhole i x.offset) (aliased from target) ls (All-weaker _ _ (λ x p. cond_both (is_at from x.offset) None x.offset (LabelWhole i) (λ _. tt) (λ _. p)) ls a)
 
 -- the same uses serve as long as they keep their place and kind
 record Alike (f g : Fixup) : Type 0 where
@@ -321,7 +323,7 @@ module _ (i : Isa) (y : Lawful i) where
   bare_served s gs e = rw e tt
 
   near_rewritten : (s : State) (f : Fixup) (place : ℕ) → Orderly i s → InPlace i s.code f → Near i s f place → Rewritten s.code f place
-  near_rewritten s f place o p n = rewritten s.code f place p (rw n.resolves (resolved_whole i s.labels (root s.labels f.label) o.labels_whole (rw (← n.resolves) n.known))) n.ahead n.behind
+  near_rewritten s f place o p n = rewritten s.code f place p (subst (LabelWhole i) n.resolves (resolved_whole i s.labels (root s.labels f.label) o.labels_whole)) n.ahead n.behind
 
   veneer_whole : (s : State) (f : Fixup) (at : ℕ) → Veneered i s f at → at % i.align ≡ 0
   veneer_whole s f at v = rw v.behind_code (aligned_multiple i.align (cur_offset s) (some_alignment i y))
@@ -400,15 +402,15 @@ module _ (i : Isa) (y : Lawful i) where
       (bound_whole i s.labels d.label at (aligned_multiple i.align (cur_offset s) (some_alignment i y)) o.labels_whole) (uses_padded s i.trap at o) o.served
 
   -- a constant under another label is as large, and as aligned, as it was
-  same_size : (s : State) (n l m : ℕ) → n < length s.constants → (get_or (label_constant s n l) m (record { size = 0; align = 1; label = unknown })).size ≡ (constant_row s m).size
+  same_size : (s : State) (n : ℕ) (l : Option ℕ) (m : ℕ) → n < length s.constants → (get_or (label_constant s n l) m (record { size = 0; align = 1; label = None })).size ≡ (constant_row s m).size
   same_size s n l m h = ⊎_elim
-      (λ (e : m ≡ n). rw (e, get_or-set_same s.constants n (record { size = (constant_row s n).size; align = (constant_row s n).align; label = l }) (record { size = 0; align = 1; label = unknown }) h))
-      (λ (d : m ≡ n → ⊥). ap (λ (c : Constant). c.size) (get_or-set_other s.constants n m (record { size = (constant_row s n).size; align = (constant_row s n).align; label = l }) (record { size = 0; align = 1; label = unknown }) d))
+      (λ (e : m ≡ n). rw (e, get_or-set_same s.constants n (record { size = (constant_row s n).size; align = (constant_row s n).align; label = l }) (record { size = 0; align = 1; label = None }) h))
+      (λ (d : m ≡ n → ⊥). ap (λ (c : Constant). c.size) (get_or-set_other s.constants n m (record { size = (constant_row s n).size; align = (constant_row s n).align; label = l }) (record { size = 0; align = 1; label = None }) d))
       (cases_eq m n)
 
-  labelled_whole : (s : State) (n l : ℕ) → n < length s.constants → AllByRecursion (ConstantWhole i) s.constants → AllByRecursion (ConstantWhole i) (label_constant s n l)
+  labelled_whole : (s : State) (n : ℕ) (l : Option ℕ) → n < length s.constants → AllByRecursion (ConstantWhole i) s.constants → AllByRecursion (ConstantWhole i) (label_constant s n l)
   labelled_whole s n l h a =
-      let c = All-get_or (ConstantWhole i) s.constants n (record { size = 0; align = 1; label = unknown }) h a in
+      let c = All-get_or (ConstantWhole i) s.constants n (record { size = 0; align = 1; label = None }) h a in
       All-set (ConstantWhole i) s.constants n _ (record { some = c.some; whole = c.whole }) a
 
   constant_placed_orderly : (s : State) (n : ℕ) (ns : List ℕ) → Orderly i s → s.branches ≡ [] → s.requested ≡ n ∷ ns → aligned (constant_row s n).align (cur_offset s) + (constant_row s n).size ≤ max_code
@@ -417,27 +419,27 @@ module _ (i : Isa) (y : Lawful i) where
       let at = aligned (constant_row s n).align (cur_offset s) in
       let r = place_constant (with_requested s ns) n at in
       let q : AllByRecursion (λ (m : ℕ). m < length s.constants) (n ∷ ns) = subst (AllByRecursion (λ (m : ℕ). m < length s.constants)) h o.requests_known in
-      let c = All-get_or (ConstantWhole i) s.constants n (record { size = 0; align = 1; label = unknown }) q.0 o.constants_whole in
+      let c = All-get_or (ConstantWhole i) s.constants n (record { size = 0; align = 1; label = None }) q.0 o.constants_whole in
       let l : length r.code ≡ at + (constant_row s n).size = length_padded s.code (zeros (constant_row s n).size) at (omega arith) ∙ simp length-replicate in
       let k : length r.constants ≡ length s.constants = simp length-set in
       let whole : at % i.align ≡ 0 = multiple_of at (constant_row s n).align i.align (aligned_multiple (constant_row s n).align (cur_offset s) c.some) c.whole in
       record {
         room = omega arith;
         steady = (calls_keep_steady i y).constant_placed s n ns o.steady e h room;
-        labels_whole = bound_whole i s.labels (constant_row s n).label at whole o.labels_whole;
-        constants_whole = labelled_whole s n unknown q.0 o.constants_whole;
+        labels_whole = bound_if_whole i s.labels (constant_row s n).label at whole o.labels_whole;
+        constants_whole = labelled_whole s n None q.0 o.constants_whole;
         requests_known = still_known _ _ ns (omega arith) q.1;
         placed_below = All-push (PlacedBelow r) s.placed _
-            (placed_kept s r s.placed (omega arith) (λ m _. same_size s n unknown m q.0) (λ m p. record { within = omega (arith, p.within); starts = p.starts }) o.placed_below)
-            (record { known = omega (arith, q.0); below = record { within = rw (same_size s n unknown n q.0) (omega arith); starts = rw e tt } });
+            (placed_kept s r s.placed (omega arith) (λ m _. same_size s n None m q.0) (λ m p. record { within = omega (arith, p.within); starts = p.starts }) o.placed_below)
+            (record { known = omega (arith, q.0); below = record { within = rw (same_size s n None n q.0) (omega arith); starts = rw e tt } });
         uses = uses_padded s (zeros (constant_row s n).size) at o;
         served = o.served;
       }
 
-  registered_orderly : (s : State) (size align : ℕ) → Orderly i s → is_constant i size align ≡ true → length s.constants < max_constants → Orderly i (with_constants s (s.constants ++ record { size = size; align = align; label = unknown } ∷ []))
+  registered_orderly : (s : State) (size align : ℕ) → Orderly i s → is_constant i size align ≡ true → length s.constants < max_constants → Orderly i (with_constants s (s.constants ++ record { size = size; align = align; label = None } ∷ []))
   registered_orderly s size align o e h =
       let a = constant_alignment i size align e in
-      let r = with_constants s (s.constants ++ record { size = size; align = align; label = unknown } ∷ []) in
+      let r = with_constants s (s.constants ++ record { size = size; align = align; label = None } ∷ []) in
       record {
         room = o.room;
         steady = (calls_keep_steady i y).registered s size align o.steady e h;
@@ -450,17 +452,17 @@ module _ (i : Isa) (y : Lawful i) where
       }
 
   requested_orderly : (s : State) (n : ℕ) → Orderly i s → Unrequested s n → length s.requested + length s.placed < max_requests → length s.labels < max_labels
-      → Orderly i (with_requested (with_constants (add_label s true) (label_constant s n (length s.labels))) (s.requested ++ n ∷ []))
+      → Orderly i (with_requested (with_constants (add_label s true) (label_constant s n (Some (length s.labels)))) (s.requested ++ n ∷ []))
   requested_orderly s n o h j m =
-      let r = with_requested (with_constants (add_label s true) (label_constant s n (length s.labels))) (s.requested ++ n ∷ []) in
+      let r = with_requested (with_constants (add_label s true) (label_constant s n (Some (length s.labels)))) (s.requested ++ n ∷ []) in
       let k : length r.constants ≡ length s.constants = simp length-set in
       record {
         room = o.room;
         steady = (calls_keep_steady i y).requested s n o.steady h j m;
         labels_whole = unbound_whole i s.labels true o.labels_whole;
-        constants_whole = labelled_whole s n (length s.labels) h.exists o.constants_whole;
+        constants_whole = labelled_whole s n (Some (length s.labels)) h.exists o.constants_whole;
         requests_known = still_known _ _ (s.requested ++ n ∷ []) (omega arith) (All-push (λ (x : ℕ). x < length s.constants) s.requested n o.requests_known h.exists);
-        placed_below = placed_kept s r s.placed (omega arith) (λ x _. same_size s n (length s.labels) x h.exists) (λ x p. record { within = p.within; starts = p.starts }) o.placed_below;
+        placed_below = placed_kept s r s.placed (omega arith) (λ x _. same_size s n (Some (length s.labels)) x h.exists) (λ x p. record { within = p.within; starts = p.starts }) o.placed_below;
         uses = o.uses;
         served = o.served;
       }

@@ -2,7 +2,7 @@
 -- traps and constants are written.
 use Rattle.std.proofs.Common.{◌≡◌, ℕ, ◌+◌, ◌-◌, ◌≤◌, Bool, true, false, not, ◌&&◌, ltb, leb, List, [], ◌∷◌, ◌++◌, length, drop, Some, None, Option, sym, refl, append_assoc, append-nil, arith}
 use Rattle.std.specs.List.{AllByRecursion}
-use Rattle.std.proofs.lemmas.Bool.{ltb-false, not-false, cond_both}
+use Rattle.std.proofs.lemmas.Bool.{ltb-false, leb-true, and_parts, not-false, cond_both}
 use Rattle.std.proofs.lemmas.Bool.Decides.{nat_tests}
 use Rattle.isa.specs.Isa.{Isa}
 use Rattle.model.specs.declared.rows.Fixup.{Fixup}
@@ -13,18 +13,17 @@ use Rattle.model.specs.declared.refusals.Refusal.{Refusal}
 use Rattle.model.specs.Capacities.{max_code}
 use Rattle.model.specs.State.{State, cur_offset, with_code, with_fresh, with_held, with_branches, with_deferred, with_requested}
 use Rattle.model.specs.Code.{aligned}
-use Rattle.model.specs.Labels.{is_known, offset_of}
+use Rattle.model.specs.Labels.{place_of}
 use Rattle.model.specs.Fixups.{insert_held}
 use Rattle.model.specs.Constants.{constant_row}
 use Rattle.model.specs.Progress.{Progress, breaks_off, go_on}
-use Rattle.model.specs.Fates.{fate, patch_fixup, own_fixup, add_veneer}
+use Rattle.model.specs.Fates.{veneer_at, fate_at, fate, patch_fixup, own_fixup, add_veneer}
 use Rattle.model.specs.Islands.{threshold, handled, is_ripe, less_fresh, less_held, fresh_step, fresh_pass, held_pass, reset_deadline, write_trap, trap_step, traps_pass, place_constant, constant_step, constants_pass, island}
 use Rattle.model.proofs.Cases.{either}
 
 -- where a fixup may be patched to its label
 pub record Near (i : Isa) (s : State) (f : Fixup) (place : ℕ) : Type 0 where
-  pub resolves : place ≡ offset_of s.labels f.label
-  pub known : is_known place ≡ true
+  pub resolves : place_of s.labels f.label ≡ Some place
   pub ahead : place - f.offset ≤ i.max_pos f.kind
   pub behind : f.offset - place ≤ i.max_neg f.kind
 
@@ -53,10 +52,6 @@ pub record KeptByIslands (i : Isa) (O : Fixup → Type 0) (P Q : State → Type 
 pub any_uses : (fs : List Fixup) → AllByRecursion (λ _. Unit {0}) fs
 any_uses [] = tt
 any_uses (f ∷ fs) = (tt, any_uses fs)
-
--- a label that is not too far ahead, and not too far behind
-near_enough : (known turn : Bool) (a b c d : ℕ) → (known && ltb a b) ≡ false → (known && leb c d && turn) ≡ true → (known ≡ true) × (b ≤ a) × (c ≤ d)
-near_enough known turn a b c d e h = (grind (arith, nat_tests), grind (arith, nat_tests), grind (arith, nat_tests))
 
 -- a part of an island: the tables after it have the property, and a second one unless it broke off
 record Went (P Q : State → Type 0) (p : Progress) : Type 0 where
@@ -95,16 +90,22 @@ record Requested (ns : List ℕ) (s : State) : Type 0 where
 
 -- what becomes of a fixup
 fate_keeps : (i : Isa) (Q : Fate → Type 0) (force : Bool) (s : State) (f : Fixup) → ((place : ℕ) → Near i s f place → Q (ToLabel place)) → ((at : ℕ) → Veneered i s f at → Q (ToVeneer at)) → ((e : Refusal) → Q (Fails e)) → Q (fate i force s f)
-fate_keeps i Q force s f near veneer fails =
-    let place = offset_of s.labels f.label in
-    let at = aligned i.align (cur_offset s) in
-    cond_both (is_known place && ltb (i.max_pos f.kind) (place - f.offset)) _ _ Q (λ _. fails _) (λ near-ahead.
-    cond_both (is_known place && leb (f.offset - place) (i.max_neg f.kind) && not (force && i.supports f.kind)) _ _ Q
-    (λ e. near place (let n = near_enough _ _ _ _ _ _ near-ahead e in record { resolves = refl; known = n.0; ahead = n.1; behind = n.2 })) (λ _.
-    cond_both (not (i.supports f.kind)) _ _ Q (λ _. fails _) (λ supported.
-    cond_both (ltb (i.max_pos f.kind) (at - f.offset)) _ _ Q (λ _. fails _) (λ ahead.
-    cond_both (ltb max_code (at + length (i.veneer f.kind).code)) _ _ Q (λ _. fails _) (λ room.
-    veneer at (record { behind_code = refl; supported = not-false _ supported; ahead = ltb-false _ _ ahead; room = ltb-false _ _ room }))))))
+fate_keeps i Q force s f near veneer fails = by (place_of s.labels f.label) refl
+  where
+    to_veneer : Q (veneer_at i (cur_offset s) f)
+    to_veneer =
+        let at = aligned i.align (cur_offset s) in
+        cond_both (not (i.supports f.kind)) _ _ Q (λ _. fails _) (λ supported.
+        cond_both (ltb (i.max_pos f.kind) (at - f.offset)) _ _ Q (λ _. fails _) (λ ahead.
+        cond_both (ltb max_code (at + length (i.veneer f.kind).code)) _ _ Q (λ _. fails _) (λ room.
+        veneer at (record { behind_code = refl; supported = not-false _ supported; ahead = ltb-false _ _ ahead; room = ltb-false _ _ room }))))
+
+    by : (o : Option ℕ) → place_of s.labels f.label ≡ o → Q (fate_at i force (cur_offset s) o f)
+    by None e = to_veneer
+    by (Some place) e =
+        cond_both (ltb (i.max_pos f.kind) (place - f.offset)) _ _ Q (λ _. fails _) (λ ahead.
+        cond_both (leb (f.offset - place) (i.max_neg f.kind) && not (force && i.supports f.kind)) _ _ Q
+        (λ behind. near place (record { resolves = e; ahead = ltb-false _ _ ahead; behind = leb-true _ _ (and_parts _ _ behind).0 })) (λ _. to_veneer))
 
 module _ {i : Isa} {O : Fixup → Type 0} {P Q : State → Type 0} (w : KeptByIslands i O P Q) where
   fresh_step_went : (force : Bool) (t : ℕ) (s : State) (f : Fixup) (fs : List Fixup) → P s → FirstFresh O (f ∷ fs) s → Went P (FirstFresh O fs) (fresh_step i force t s f)

@@ -11,6 +11,7 @@ use Rattle.model.specs.Calls.{add_trap}
 use Rattle.model.specs.Steps.{Call}
 use Rattle.model.specs.Runs.{run}
 use Rattle.model.specs.Within.{Within}
+use Rattle.model.proofs.Labels.{length-bound_if}
 use Rattle.model.proofs.Patched.{length-insert}
 use Rattle.model.proofs.Rounds.{RulesKeep, simplified_keeps}
 use Rattle.model.proofs.Kept.{Kept, always}
@@ -58,7 +59,7 @@ calls_keep_within i = record {
   veneered_held = λ s f fs at k b e _. record { labels_fit = k.labels_fit; fixups_fit = simp length-append (omega (arith, k.fixups_fit, ap length e)); branches_fit = k.branches_fit; traps_fit = k.traps_fit; constants_fit = k.constants_fit; requests_fit = k.requests_fit; regions_fit = k.regions_fit; open_fits = k.open_fits };
   deadline_reset = λ s k. record { labels_fit = k.labels_fit; fixups_fit = k.fixups_fit; branches_fit = k.branches_fit; traps_fit = k.traps_fit; constants_fit = k.constants_fit; requests_fit = k.requests_fit; regions_fit = k.regions_fit; open_fits = k.open_fits };
   trap_written = λ s d ds k b e _. record { labels_fit = simp length-set k.labels_fit; fixups_fit = k.fixups_fit; branches_fit = k.branches_fit; traps_fit = simp length-append (omega (arith, k.traps_fit, ap length e)); constants_fit = k.constants_fit; requests_fit = k.requests_fit; regions_fit = k.regions_fit; open_fits = k.open_fits };
-  constant_placed = λ s n ns k b e _. record { labels_fit = simp length-set k.labels_fit; fixups_fit = k.fixups_fit; branches_fit = k.branches_fit; traps_fit = k.traps_fit; constants_fit = simp length-set k.constants_fit; requests_fit = simp length-append (omega (arith, k.requests_fit, ap length e)); regions_fit = k.regions_fit; open_fits = k.open_fits };
+  constant_placed = λ s n ns k b e _. record { labels_fit = simp length-bound_if k.labels_fit; fixups_fit = k.fixups_fit; branches_fit = k.branches_fit; traps_fit = k.traps_fit; constants_fit = simp length-set k.constants_fit; requests_fit = simp length-append (omega (arith, k.requests_fit, ap length e)); regions_fit = k.regions_fit; open_fits = k.open_fits };
   broke_off = λ s k. record { labels_fit = k.labels_fit; fixups_fit = k.fixups_fit; branches_fit = k.branches_fit; traps_fit = k.traps_fit; constants_fit = k.constants_fit; requests_fit = k.requests_fit; regions_fit = k.regions_fit; open_fits = k.open_fits };
   at_end = λ s k. k;
   pool_copied = λ s pool k. record { labels_fit = k.labels_fit; fixups_fit = k.fixups_fit; branches_fit = k.branches_fit; traps_fit = k.traps_fit; constants_fit = k.constants_fit; requests_fit = k.requests_fit; regions_fit = k.regions_fit; open_fits = k.open_fits };

@@ -3,7 +3,7 @@ use Rattle.std.specs.Prelude.{◌≡◌, ℕ, ◌<◌, cond, not, List, [], ◌�
 use Rattle.model.specs.declared.rows.Region.{Region}
 use Rattle.model.specs.declared.refusals.Refusal.{Refusal}
 use Rattle.model.specs.declared.refusals.Refusal.TheVariants.{NoSuchRegion, BadBytes}
-use Rattle.model.specs.State.{State, unknown, with_code}
+use Rattle.model.specs.State.{State, with_code}
 use Rattle.model.specs.Code.{overwritten}
 use Rattle.model.specs.Labels.{label_row}
 
@@ -24,12 +24,11 @@ abbrev pub first_at : {R : Type 0} → (R → ℕ) → List R → ℕ → Option
 first_at offset [] at = None
 first_at offset (r ∷ rs) at = cond (offset r == at) (Some r) (first_at offset rs at)
 
--- an unaliased label that stands at an offset; an unbound one stands nowhere
+-- an unaliased label that stands at an offset
 pub record StandsAt (s : State) (at l : ℕ) : Type 0 where
   pub exists : l < length s.labels
-  pub unaliased : (label_row s.labels l).alias ≡ unknown
-  pub here : (label_row s.labels l).offset ≡ at
-  pub bound : at < unknown
+  pub unaliased : (label_row s.labels l).alias ≡ None
+  pub here : (label_row s.labels l).offset ≡ Some at
 
 -- What a search for a label at an offset may answer: one that stands there, or none where none does.
 abbrev pub LabelAt : State → ℕ → Option ℕ → Type 0

@@ -1,6 +1,6 @@
 -- The calls that build code, save islands and finishing: what each answers, and the tables after it. The refusals of a
 -- call stand in the order of checking, and a refused call changes nothing.
-use Rattle.std.specs.Prelude.{ℕ, ◌+◌, ◌-◌, ◌%◌, Bool, true, false, cond, not, ◌&&◌, ◌||◌, List, [], ◌∷◌, ◌++◌, length, ℤ, pos, negsuc, Some, None, Ok, Err, Option, Result, ◌==◌, nat_le, nat_lt}
+use Rattle.std.specs.Prelude.{ℕ, ◌+◌, ◌-◌, ◌%◌, Bool, true, false, cond, not, ◌&&◌, ◌||◌, List, [], ◌∷◌, ◌++◌, length, ℤ, pos, negsuc, is_some, Some, None, Ok, Err, Option, Result, ◌==◌, nat_le, nat_lt}
 use Rattle.isa.specs.declared.jumps.Role.{Role}
 use Rattle.isa.specs.declared.jumps.Role.TheVariants.{Unconditional, Conditional, NoBranch}
 use Rattle.isa.specs.Isa.{Isa}
@@ -8,10 +8,10 @@ use Rattle.isa.specs.Patches.{inversion}
 use Rattle.model.specs.declared.rows.Region.{Region}
 use Rattle.model.specs.declared.refusals.Refusal.{Refusal}
 use Rattle.model.specs.declared.refusals.Refusal.TheVariants.{BrokenOff, RegionOpen, NoSuchLabel, AlreadyBound, NotAligned, NoSuchKind, BadBytes, CodeFull, LabelsFull, FixupsFull, BranchesFull, TrapsFull, ConstantsFull, BadConstant, NoSuchConstant, BadAlignment, RegionsFull}
-use Rattle.model.specs.State.{State, unknown, cur_offset, is_open, with_code, with_labels, with_branches, with_deferred, with_traps, with_constants, with_requested, with_regions, with_opened}
+use Rattle.model.specs.State.{State, cur_offset, is_open, with_code, with_labels, with_branches, with_deferred, with_traps, with_constants, with_requested, with_regions, with_opened}
 use Rattle.model.specs.Code.{zeros, padding, is_alignment}
 use Rattle.model.specs.Full.{no_room, labels_full, fixups_full, branches_full, traps_full, constants_full, requests_full, regions_full}
-use Rattle.model.specs.Labels.{unbound, label_row, is_known, bound_at}
+use Rattle.model.specs.Labels.{unbound, label_row, bound_at}
 use Rattle.model.specs.Fixups.{fixup_at, add_fixup}
 use Rattle.model.specs.Constants.{is_constant, constant_row, label_constant}
 use Rattle.model.specs.Simplify.{simplified}
@@ -37,7 +37,7 @@ get_label s =
 
 -- a label that was bound, has become an alias, or is reserved
 abbrev pub is_taken : State → ℕ → Bool
-is_taken s l = is_known (label_row s.labels l).offset || is_known (label_row s.labels l).alias || (label_row s.labels l).reserved
+is_taken s l = is_some (label_row s.labels l).offset || is_some (label_row s.labels l).alias || (label_row s.labels l).reserved
 
 -- a label bound at the current offset
 abbrev pub bind : State → ℕ → State
@@ -157,17 +157,22 @@ register_constant i s size align =
     cond s.broken (Err BrokenOff, s)
     (cond (not (is_constant i size align)) (Err BadConstant, s)
     (cond (constants_full s) (Err ConstantsFull, s)
-    (Ok (length s.constants), with_constants s (s.constants ++ record { size = size; align = align; label = unknown } ∷ []))))
+    (Ok (length s.constants), with_constants s (s.constants ++ record { size = size; align = align; label = None } ∷ []))))
+
+-- a constant requested, where it is pending under a label or not pending
+abbrev pub request : Option ℕ → State → ℕ → Result ℕ Refusal × State
+request (Some l) s n = (Ok l, s)
+request None s n =
+    cond (requests_full s) (Err ConstantsFull, s)
+    (cond (labels_full s) (Err LabelsFull, s)
+    (Ok (length s.labels), with_requested (with_constants (add_label s true) (label_constant s n (Some (length s.labels)))) (s.requested ++ n ∷ [])))
 
 -- The next island places a constant. The answer is its label, the same one for every request up to then.
 abbrev pub get_label_for_constant : State → ℕ → Result ℕ Refusal × State
 get_label_for_constant s n =
     cond s.broken (Err BrokenOff, s)
     (cond (nat_le (length s.constants) n) (Err NoSuchConstant, s)
-    (cond (is_known (constant_row s n).label) (Ok (constant_row s n).label, s)
-    (cond (requests_full s) (Err ConstantsFull, s)
-    (cond (labels_full s) (Err LabelsFull, s)
-    (Ok (length s.labels), with_requested (with_constants (add_label s true) (label_constant s n (length s.labels))) (s.requested ++ n ∷ []))))))
+    (request (constant_row s n).label s n))
 
 -- The branches are simplified.
 abbrev pub optimize_branches : State → Bool → Result (Unit {0}) Refusal × State

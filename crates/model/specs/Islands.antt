@@ -1,5 +1,5 @@
 -- Islands: the fixups that wait are patched or put aside, then pending traps and constants are written.
-use Rattle.std.specs.Prelude.{ℕ, ◌+◌, ◌*◌, min, Bool, true, false, cond, ◌&&◌, ◌||◌, List, [], ◌∷◌, ◌++◌, length, drop, Some, None, Ok, Err, sum_by, Option, Result, nat_lt}
+use Rattle.std.specs.Prelude.{ℕ, ◌+◌, ◌*◌, min, Bool, true, false, cond, ◌&&◌, ◌||◌, List, [], ◌∷◌, ◌++◌, length, drop, is_some, Some, None, Ok, Err, sum_by, Option, Result, nat_lt}
 use Rattle.isa.specs.Isa.{Isa}
 use Rattle.model.specs.declared.rows.Fixup.{Fixup}
 use Rattle.model.specs.declared.rows.DeferredTrap.{DeferredTrap}
@@ -10,7 +10,7 @@ use Rattle.model.specs.declared.refusals.Refusal.TheVariants.{BrokenOff, RegionO
 use Rattle.model.specs.Capacities.{max_code}
 use Rattle.model.specs.State.{State, unknown, cur_offset, is_open, with_code, with_labels, with_fresh, with_held, with_deadline, with_branches, with_deferred, with_traps, with_constants, with_requested, with_placed, with_broken}
 use Rattle.model.specs.Code.{zeros, aligned, padded_to}
-use Rattle.model.specs.Labels.{offset_of, is_known, bound_at}
+use Rattle.model.specs.Labels.{place_of, bound_at, bound_if}
 use Rattle.model.specs.Fixups.{waiting, least_fresh_deadline, insert_held}
 use Rattle.model.specs.Constants.{constant_row, label_constant}
 use Rattle.model.specs.Progress.{Progress, reached, breaks_off, then}
@@ -30,7 +30,7 @@ handled i (Fails e) before s f = breaks_off e before
 
 -- ripe: its label is placed, or its deadline is below the threshold and a veneer exists
 abbrev pub is_ripe : Isa → ℕ → State → Fixup → Bool
-is_ripe i t s f = is_known (offset_of s.labels f.label) || (nat_lt f.deadline t && i.supports f.kind)
+is_ripe i t s f = is_some (place_of s.labels f.label) || (nat_lt f.deadline t && i.supports f.kind)
 
 -- the tables without the first fresh fixup
 abbrev pub less_fresh : State → State
@@ -80,7 +80,7 @@ traps_pass i (d ∷ ds) s = then (trap_step i s d) (λ r. traps_pass i ds r)
 
 -- a constant is placed as zeros at an offset behind the code, bound, and pending no longer
 abbrev pub place_constant : State → ℕ → ℕ → State
-place_constant s n at = with_code (with_labels (with_placed (with_constants s (label_constant s n unknown)) (s.placed ++ record { offset = at; number = n } ∷ [])) (bound_at s.labels (constant_row s n).label at)) (padded_to s.code at ++ zeros (constant_row s n).size)
+place_constant s n at = with_code (with_labels (with_placed (with_constants s (label_constant s n None)) (s.placed ++ record { offset = at; number = n } ∷ [])) (bound_if s.labels (constant_row s n).label at)) (padded_to s.code at ++ zeros (constant_row s n).size)
 
 -- the first requested constant is placed, aligned
 abbrev pub constant_step : State → ℕ → Progress

@@ -26,7 +26,7 @@ pub record State : Type 0 where
   pub opened : Option ℕ  -- where the open region begins
   pub broken : Bool  -- an island has failed, and nothing more is built
 
--- no offset, no label, no deadline
+-- where a label is that stands nowhere, and the cap of deadlines and thresholds
 abbrev pub unknown : ℕ
 unknown = 4294967295
 

@@ -1,18 +1,63 @@
 // The rows of a buffer's tables.
+ghost use Rattle.std.specs.Prelude.{◌≡◌};
+ghost use Rattle.model.specs.Labels.{unbound, moved, aliased};
+
 use crate::refusals::Refusal;
 
-/// As an offset, a label or a deadline: there is none.
+/// Where a label is that stands nowhere, and the cap of deadlines.
 pub const UNKNOWN: u32 = 4294967295;
 
 /// A label: it stands at an offset, or is an alias of another label and stands nowhere itself, or is unbound.
 #[derive(Clone, Copy)]
 pub struct Label {
     /// where it stands
-    pub offset: u32,
+    pub offset: Option<u32>,
     /// the label that it is an alias of
-    pub alias: u32,
+    pub alias: Option<u32>,
     /// it is the label of a trap or a constant, which an island binds
     pub reserved: bool,
+}
+
+impl Label {
+    /// A new label.
+    pub fn unbound(reserved: bool) -> Label
+        ensures { result ≡ unbound reserved }
+    {
+        Label {
+            offset: None,
+            alias: None,
+            reserved,
+        }
+    }
+
+    /// The label, moved if it stands at an offset to another.
+    pub fn moved(self, from: u32, to: u32) -> Label
+        ensures { result ≡ moved from to self }
+    {
+        if self.offset == Some(from) {
+            Label {
+                offset: Some(to),
+                ..self
+            }
+        } else {
+            self
+        }
+    }
+
+    /// The label, if it stands at an offset no longer there, but an alias of another.
+    pub fn aliased(self, from: u32, target: u32) -> Label
+        ensures { result ≡ aliased from target self }
+    {
+        if self.offset == Some(from) {
+            Label {
+                offset: None,
+                alias: Some(target),
+                ..self
+            }
+        } else {
+            self
+        }
+    }
 }
 
 /// A use of a label that waits to be patched.
@@ -62,7 +107,7 @@ pub struct Trap {
 pub struct Constant {
     pub size: u32,
     pub align: u32,
-    pub label: u32,
+    pub label: Option<u32>,
 }
 
 /// A constant that an island has placed.

@@ -5,9 +5,11 @@ use lib.IntN.{sub_ℕ}
 use Rattle.isa.specs.declared.jumps.Found.{Found}
 use Rattle.isa.specs.declared.jumps.Found.TheVariants.{Branch, Veneer, NoJump}
 use Rattle.isa.specs.Laws.{Leads}
+use Rattle.model.specs.Labels.{is_at}
+use Rattle.model.proofs.Labels.{eq-is_at, is_at-true}
 use Rattle.readings.specs.Walk.{Step, nowhere, on}
 use Rattle.readings.specs.Draft.{Truth, jumps, Item, piece, use_of, label, branch, gap, among, pieces_among, Destination}
-use Rattle.readings.specs.Code.{by, follow, piece_at, is_at, kept_at}
+use Rattle.readings.specs.Code.{by, follow, piece_at, kept_at}
 
 -- the displacement from q to n leads to n
 pub by_target : (n q : ℕ) → by q (sub_ℕ n q) ≡ on n
@@ -75,11 +77,7 @@ no_piece_there (label l ∷ I) n q none = no_piece_there I n q (λ j z. none (su
 no_piece_there (branch l r ∷ I) n q none = no_piece_there I n q (λ j z. none (suc j) z)
 no_piece_there (gap ∷ I) n q none = no_piece_there I n q (λ j z. none (suc j) z)
 
--- the tests of a place and of a list of labels
-at_place : (q : ℕ) (x : Option ℕ) → is_at q x ≡ true → x ≡ Some q
-at_place q None h = absurd (false≢true h)
-at_place q (Some p) h = ap Some (eqb-true p q h)
-
+-- the tests of a list of labels
 first_among : (m : ℕ) (K : List ℕ) → among m (m ∷ K) ≡ true
 first_among m K = ap (λ (b : Bool). b || among m K) (eq-eqb m m refl)
 
@@ -101,10 +99,10 @@ kept_there (m ∷ K) place l q h p only =
     go (λ other. kept_there K place l q (not_first l m K other h) p (λ i a. only i (later-among i m K a))) (is_at q (place m)) refl
   where
     here : is_at q (place l) ≡ true
-    here = ap (is_at q) p ∙ eq-eqb q q refl
+    here = eq-is_at q (place l) p
 
     go : ((l ≡ m → ⊥) → kept_at K place q ≡ Some l) → (b : Bool) → is_at q (place m) ≡ b → kept_at (m ∷ K) place q ≡ Some l
-    go rest true e = ap (λ (b : Bool). cond b (Some m) (kept_at K place q)) e ∙ ap Some (only m (first_among m K) (at_place q (place m) e))
+    go rest true e = ap (λ (b : Bool). cond b (Some m) (kept_at K place q)) e ∙ ap Some (only m (first_among m K) (is_at-true q (place m) e))
     go rest false e =
         ap (λ (b : Bool). cond b (Some m) (kept_at K place q)) e ∙ rest (λ z. true≢false (sym here ∙ ap (λ i. is_at q (place i)) z ∙ e))
 
@@ -113,5 +111,5 @@ no_kept_there [] place q none = refl
 no_kept_there (m ∷ K) place q none = go (no_kept_there K place q (λ i a. none i (later-among i m K a))) (is_at q (place m)) refl
   where
     go : kept_at K place q ≡ None → (b : Bool) → is_at q (place m) ≡ b → kept_at (m ∷ K) place q ≡ None
-    go rest true e = absurd (none m (first_among m K) (at_place q (place m) e))
+    go rest true e = absurd (none m (first_among m K) (is_at-true q (place m) e))
     go rest false e = ap (λ (b : Bool). cond b (Some m) (kept_at K place q)) e ∙ rest

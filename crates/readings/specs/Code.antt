@@ -1,8 +1,9 @@
 -- A walk in the code, and what it means that draft and code agree.
-use Rattle.std.specs.Prelude.{◌≡◌, ℕ, suc, ◌+◌, ◌-◌, Bool, false, cond, List, [], ◌∷◌, ℤ, pos, negsuc, Some, None, Option, ◌==◌, nat_lt}
+use Rattle.std.specs.Prelude.{◌≡◌, ℕ, suc, ◌+◌, ◌-◌, cond, List, [], ◌∷◌, ℤ, pos, negsuc, Some, None, Option, ◌==◌, nat_lt}
 use Rattle.std.proofs.Math.IntN.{sub_ℕ}
 use Rattle.isa.specs.declared.jumps.Found.{Found}
 use Rattle.isa.specs.declared.jumps.Found.TheVariants.{Branch, Veneer, NoJump}
+use Rattle.model.specs.Labels.{is_at}
 use Rattle.readings.specs.Walk.{Step, stop, nowhere, on, RunsOff}
 use Rattle.readings.specs.Agree.{Agrees}
 use Rattle.readings.specs.Draft.{Truth, jumps, Draft, Item, item, piece, use_of, label, branch, gap, at, to, Destination, the_piece, the_kept, draft_step}
@@ -26,10 +27,6 @@ piece_at (use_of o k c l ∷ D) n q = cond (o == q) (Some n) (piece_at D (suc n)
 piece_at (label l ∷ D) n q = piece_at D n q
 piece_at (branch l r ∷ D) n q = piece_at D n q
 piece_at (gap ∷ D) n q = piece_at D n q
-
-abbrev pub is_at : ℕ → Option ℕ → Bool
-is_at q None = false
-is_at q (Some p) = p == q
 
 -- the label of the trap or constant that stands at an offset
 abbrev pub kept_at : List ℕ → (ℕ → Option ℕ) → ℕ → Option ℕ

@@ -28,8 +28,6 @@
 ghost use Rattle.readings.specs.Layouts.{LayoutsAgree};
 
 /// Code that is laid out as its draft grew does what the draft says, from every start.
-pub fn layouts_agree() -> u8
+pub fn layouts_agree()
     ensures { LayoutsAgree }
-{
-    0
-}
+{}

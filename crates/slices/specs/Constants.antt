@@ -1,7 +1,7 @@
 -- The rows of constants.
 use Rattle.model.specs.declared.rows.Constant.{Constant}
-use Rattle.model.specs.State.{unknown}
+use Rattle.std.specs.Prelude.{None}
 
 -- what stands for a constant where there is none
 abbrev pub no_constant : Constant
-no_constant = record { size = 0; align = 1; label = unknown }
+no_constant = record { size = 0; align = 1; label = None }

@@ -8,14 +8,10 @@ use model::rows::{Label, UNKNOWN};
 fn row_of(labels: &[Label], label: u32) -> Label
     ensures { result ≡ label_row labels.now label }
 {
-    if label as usize >= labels.len() {
-        return Label {
-            offset: UNKNOWN,
-            alias: UNKNOWN,
-            reserved: false,
-        };
-    }
-    labels[label as usize]
+    labels
+        .get(label as usize)
+        .copied()
+        .unwrap_or(Label::unbound(false))
 }
 
 // The label that a label stands for, once its aliases are followed.
@@ -24,10 +20,9 @@ fn root_of(labels: &[Label], start: u32) -> u32
 {
     let mut label = start;
     for _turn in 0..labels.len() {
-        let alias = row_of(labels, label).alias;
-        if alias == UNKNOWN {
+        let Some(alias) = row_of(labels, label).alias else {
             return label;
-        }
+        };
         label = alias;
     }
     label
@@ -37,17 +32,9 @@ fn root_of(labels: &[Label], start: u32) -> u32
 pub fn resolve(labels: &[Label], label: u32) -> u32
     ensures { result ≡ offset_of labels.now label }
 {
-    row_of(labels, root_of(labels, label)).offset
-}
-
-fn moved_row(row: Label, from: u32, to: u32) -> Label
-    ensures { result ≡ moved from to row }
-{
-    if row.offset == from {
-        Label { offset: to, ..row }
-    } else {
-        row
-    }
+    row_of(labels, root_of(labels, label))
+        .offset
+        .unwrap_or(UNKNOWN)
 }
 
 /// Moves each label that stands at one offset to another.
@@ -55,21 +42,7 @@ pub fn move_labels(labels: &mut [Label], from: u32, to: u32)
     ensures { labels.new ≡ map (moved from to) labels.old }
 {
     for row in labels.iter_mut() {
-        *row = moved_row(*row, from, to);
-    }
-}
-
-fn aliased_row(row: Label, from: u32, target: u32) -> Label
-    ensures { result ≡ aliased from target row }
-{
-    if row.offset == from {
-        Label {
-            offset: UNKNOWN,
-            alias: target,
-            ..row
-        }
-    } else {
-        row
+        *row = row.moved(from, to);
     }
 }
 
@@ -78,7 +51,7 @@ pub fn alias_labels(labels: &mut [Label], from: u32, target: u32)
     ensures { labels.new ≡ map (aliased from target) labels.old }
 {
     for row in labels.iter_mut() {
-        *row = aliased_row(*row, from, target);
+        *row = row.aliased(from, target);
     }
 }
 
@@ -86,11 +59,8 @@ pub fn alias_labels(labels: &mut [Label], from: u32, target: u32)
 pub fn count_standing(labels: &[Label], offset: u32) -> usize
     ensures { result ≡ standing offset labels.now }
 {
-    let mut n: usize = 0;
-    for row in labels {
-        if row.offset == offset {
-            n += 1;
-        }
-    }
-    n
+    labels
+        .iter()
+        .filter(|row| row.offset == Some(offset))
+        .count()
 }

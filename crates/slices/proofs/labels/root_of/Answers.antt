@@ -1,17 +1,15 @@
-use Rattle.std.proofs.Common.{◌≡◌, ℕ, suc, ◌+◌, ◌-◌, ◌<◌, cond, eqb, List, length, ap, arith, rules}
-use Rattle.std.proofs.lemmas.Bool.Decides.{nat_tests}
+use Rattle.std.proofs.Common.{◌≡◌, ℕ, suc, ◌+◌, ◌-◌, ◌<◌, List, Some, Option, unwrap_or, option_map, length, ap, ◌∙◌, arith, rules, sym}
 use Rattle.model.specs.declared.rows.Label.{Label}
 use Rattle.model.specs.Labels.{label_row, root_within}
-use Rattle.model.specs.State.{unknown}
 use Rattle.slices.proofs.labels.root_of.Goals as goal
 
 -- one step along the aliases
-step : (ls : List Label) (n i l : ℕ) → i < n
-    → root_within (n - i) ls l ≡ cond (eqb (label_row ls l).alias unknown) l (root_within (n - (i + 1)) ls (label_row ls l).alias)
-step ls n i l h = let e : n - i ≡ suc (n - (i + 1)) = omega arith in ap (λ k. root_within k ls l) e
-
-pub returns-then-alias : goal.returns-then-alias
-returns-then-alias c = let e = step c.args.labels.now (length c.args.labels.now) c.loop-turn._turn c.loop-turn.label c.loop-turn-test.true in grind (arith, nat_tests)
+step : (ls : List Label) (n i l a : ℕ) → i < n → (label_row ls l).alias ≡ Some a → root_within (n - (i + 1)) ls a ≡ root_within (n - i) ls l
+step ls n i l a h e =
+    let more : n - i ≡ suc (n - (i + 1)) = omega arith in
+    sym (ap (λ k. root_within k ls l) more ∙ ap (λ (o : Option ℕ). unwrap_or (option_map (λ b. root_within (n - (i + 1)) ls b) o) l) e)
 
 pub loop-turn-preserved : goal.loop-turn-preserved
-loop-turn-preserved c = let e = step c.args.labels.now (length c.args.labels.now) c.loop-turn._turn c.loop-turn.label c.loop-turn-test.true in (search rules, grind (arith, nat_tests))
+loop-turn-preserved c =
+    let alias : (label_row c.args.labels.now c.loop-turn.label).alias ≡ Some c.in-Some.alias = ap (λ (x : Label). x.alias) (sym c.row_of.ensures) ∙ c.in-Some.is in
+    (search rules, step c.args.labels.now _ c.loop-turn._turn c.loop-turn.label c.in-Some.alias c.loop-turn-test.true alias ∙ c.loop-turn.invariant.1)
