@@ -1,10 +1,11 @@
--- What becomes of a fixup: it is patched to its label or to a veneer, or the island breaks off.
-use Rattle.std.specs.Prelude.{ℕ, ◌+◌, ◌-◌, ◌%◌, Bool, cond, not, ◌&&◌, ◌||◌, List, ◌++◌, length, ◌==◌, nat_le, nat_lt}
+-- What becomes of a fixup: it is patched to its label or to a veneer, or else the island breaks off.
+use Rattle.std.specs.Prelude.{ℕ, ◌+◌, ◌-◌, ◌%◌, Bool, cond, not, ◌&&◌, ◌||◌, List, ◌++◌, length, Ok, Err, Result, ◌==◌, nat_le, nat_lt}
 use Rattle.std.proofs.Math.IntN.{sub_ℕ}
 use Rattle.isa.specs.Isa.{Isa, bytes_at, patched_at}
 use Rattle.model.specs.declared.rows.Fixup.{Fixup}
 use Rattle.model.specs.declared.rows.Fate.{Fate}
-use Rattle.model.specs.declared.rows.Fate.TheVariants.{ToLabel, ToVeneer, Fails}
+use Rattle.model.specs.declared.rows.Fate.TheVariants.{ToLabel, ToVeneer}
+use Rattle.model.specs.declared.refusals.Refusal.{Refusal}
 use Rattle.model.specs.declared.refusals.Refusal.TheVariants.{OutOfReach, CodeFull}
 use Rattle.model.specs.Capacities.{max_code}
 use Rattle.model.specs.State.{State, cur_offset, with_code}
@@ -16,15 +17,15 @@ use Rattle.model.specs.Calls.{is_use}
 -- What becomes of a fixup whose label resolves to a place, or to none, where the code ends at an offset. A label ahead must
 -- be within reach. One that is not too far behind is patched to, unless a veneer is forced on a kind that has one. All
 -- others need a veneer: the kind must have one, within reach, and then there must be room.
-abbrev pub fate_at : Isa → Bool → ℕ → ℕ → Fixup → Fate
+abbrev pub fate_at : Isa → Bool → ℕ → ℕ → Fixup → Result Fate Refusal
 fate_at i force end place f =
     let at = aligned i.align end in
-    cond (is_known place && nat_lt (i.max_pos f.kind) (place - f.offset)) (Fails OutOfReach)
-    (cond (is_known place && nat_le (f.offset - place) (i.max_neg f.kind) && not (force && i.supports f.kind)) (ToLabel place)
-    (cond (not (i.supports f.kind)) (Fails OutOfReach)
-    (cond (nat_lt (i.max_pos f.kind) (at - f.offset)) (Fails OutOfReach)
-    (cond (nat_lt max_code (at + length (i.veneer f.kind).code)) (Fails CodeFull)
-    (ToVeneer at)))))
+    cond (is_known place && nat_lt (i.max_pos f.kind) (place - f.offset)) (Err OutOfReach)
+    (cond (is_known place && nat_le (f.offset - place) (i.max_neg f.kind) && not (force && i.supports f.kind)) (Ok (ToLabel place))
+    (cond (not (i.supports f.kind)) (Err OutOfReach)
+    (cond (nat_lt (i.max_pos f.kind) (at - f.offset)) (Err OutOfReach)
+    (cond (nat_lt max_code (at + length (i.veneer f.kind).code)) (Err CodeFull)
+    (Ok (ToVeneer at))))))
 
 -- an offset at which a label stands is a multiple of the alignment
 abbrev pub is_whole : Isa → ℕ → Bool
@@ -38,7 +39,7 @@ fits i s f =
     && (is_use i f.kind (bytes_at i f.kind s.code f.offset) && (f.offset % i.align == 0 && is_whole i (offset_of s.labels f.label)))
 
 -- what becomes of a fixup as the tables stand
-abbrev pub fate : Isa → Bool → State → Fixup → Fate
+abbrev pub fate : Isa → Bool → State → Fixup → Result Fate Refusal
 fate i force s f = fate_at i force (cur_offset s) (offset_of s.labels f.label) f
 
 -- the code with a fixup patched to an offset

@@ -1,5 +1,6 @@
 // The rows of a buffer's tables.
-use crate::refusals::Refusal;
+ghost use Rattle.std.specs.Prelude.{◌≡◌};
+ghost use Rattle.model.specs.Simplify.{is_conditional};
 
 /// As an offset, a label or a deadline: there is none.
 pub const UNKNOWN: u32 = 4294967295;
@@ -36,11 +37,21 @@ pub struct Branch {
     pub target: u32,
     /// the index of its fixup among the fresh ones
     pub fixup: u32,
-    pub conditional: bool,
+    // Bytes and inversion are arrays of the largest size with zeros behind, not slices with a length: a branch owns small
+    // arrays by value, which are copied and swapped.
     /// its bytes, with zeros after them
     pub bytes: [u8; 8],
-    /// the bytes of its inversion, with zeros after them
-    pub inverted: [u8; 8],
+    /// the bytes of its inversion, with zeros after them, if it is conditional
+    pub inverted: Option<[u8; 8]>,
+}
+
+impl Branch {
+    /// Whether a condition decides if it jumps: exactly where it has an inversion.
+    pub fn is_conditional(&self) -> bool
+        ensures { result ≡ is_conditional self.now }
+    {
+        self.inverted.is_some()
+    }
 }
 
 /// A trap that the next island writes.
@@ -80,13 +91,11 @@ pub struct Region {
     pub len: u32,
 }
 
-/// What an island does with a fixup whose turn has come.
+/// What an island does with a fixup whose turn has come, unless it breaks off.
 #[derive(Clone, Copy)]
 pub enum Fate {
     /// it is patched to its label's offset
     ToLabel(u32),
     /// it is patched to a veneer, which is written at the offset
     ToVeneer(u32),
-    /// the island breaks off
-    Fails(Refusal),
 }
