@@ -1,6 +1,6 @@
 // The rows of a buffer's tables.
 ghost use Rattle.std.specs.Prelude.{◌≡◌};
-ghost use Rattle.model.specs.Simplify.{is_conditional};
+ghost use Rattle.model.specs.Simplify.{is_conditional, turned};
 
 /// As an offset, a label or a deadline: there is none.
 pub const UNKNOWN: u32 = 4294967295;
@@ -51,6 +51,24 @@ impl Branch {
         ensures { result ≡ is_conditional self.now }
     {
         self.inverted.is_some()
+    }
+
+    /// A branch to another label, with its bytes and its inversion swapped where it has one.
+    pub fn turned(self, label: u32) -> Branch
+        ensures { result ≡ turned self label }
+    {
+        match self.inverted {
+            Some(inverted) => Branch {
+                target: label,
+                bytes: inverted,
+                inverted: Some(self.bytes),
+                ..self
+            },
+            None => Branch {
+                target: label,
+                ..self
+            },
+        }
     }
 }
 
