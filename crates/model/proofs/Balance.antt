@@ -1,5 +1,5 @@
 -- No use is lost: after every call, what was accepted and made is what was patched, removed or waits.
-use Rattle.std.proofs.Common.{◌≡◌, ℕ, ◌+◌, Bool, true, false, cond, List, [], ◌∷◌, length, Some, None, Ok, Err, Option, Result, refl, arith, length-append}
+use Rattle.std.proofs.Common.{◌≡◌, ℕ, ◌+◌, Bool, false, cond, List, [], ◌∷◌, length, Some, None, Ok, Err, Option, Result, refl, arith, length-append}
 use Rattle.isa.specs.Isa.{Isa}
 use Rattle.isa.specs.Patches.{inversion}
 use Rattle.model.specs.declared.refusals.Refusal.{Refusal}
@@ -89,14 +89,14 @@ optimize_branches_keeps s skip k = search (either (Keeps nothing_more (tally_of 
 use_keeps : (i : Isa) (s : State) (l k n : ℕ) (bytes : List ℕ) → Sound s → Keeps Number (tally_of 1 0 0 0) s (Ok n, append_use i s l k bytes)
 use_keeps i s l k n bytes h = record { holds = record { even = simp length-append (omega arith); sound = simp length-append (omega arith) } }
 
-branch_keeps : (i : Isa) (s : State) (conditional : Bool) (l k n : ℕ) (bytes inverted : List ℕ) → Sound s → Keeps Number (tally_of 1 0 0 0) s (Ok n, append_branch i s conditional l k bytes inverted)
-branch_keeps i s conditional l k n bytes inverted h = record { holds = record { even = simp length-append (omega arith); sound = simp length-append (omega arith) } }
+branch_keeps : (i : Isa) (s : State) (l k n : ℕ) (bytes : List ℕ) (inverted : Option (List ℕ)) → Sound s → Keeps Number (tally_of 1 0 0 0) s (Ok n, append_branch i s l k bytes inverted)
+branch_keeps i s l k n bytes inverted h = record { holds = record { even = simp length-append (omega arith); sound = simp length-append (omega arith) } }
 
 use_label_keeps : (i : Isa) (s : State) (l k : ℕ) (bytes : List ℕ) → Sound s → Keeps Number (tally_of 1 0 0 0) s (use_label_at_offset i s l k bytes)
 use_label_keeps i s l k bytes h = search (either (Keeps Number (tally_of 1 0 0 0) s), refused_keeps, use_keeps) depth 12
 
-add_branch_keeps : (i : Isa) (s : State) (suits conditional : Bool) (l k : ℕ) (bytes inverted : List ℕ) → Sound s → Keeps Number (tally_of 1 0 0 0) s (add_branch i s suits conditional l k bytes inverted)
-add_branch_keeps i s suits conditional l k bytes inverted h = search (either (Keeps Number (tally_of 1 0 0 0) s), refused_keeps, branch_keeps) depth 12
+add_branch_keeps : (i : Isa) (s : State) (suits : Bool) (l k : ℕ) (bytes : List ℕ) (inverted : Option (List ℕ)) → Sound s → Keeps Number (tally_of 1 0 0 0) s (add_branch i s suits l k bytes inverted)
+add_branch_keeps i s suits l k bytes inverted h = search (either (Keeps Number (tally_of 1 0 0 0) s), refused_keeps, branch_keeps) depth 12
 
 -- an island, and what is counted of it
 record Emits (s : State) (t : Tally) (x : Result (Unit {0}) Refusal × State) : Type 0 where
@@ -132,8 +132,8 @@ step_balanced i s (BindLabel l skip) h = (bind_label_keeps i s l skip h).holds
 step_balanced i s (PutData trap bytes) h = (put_data_quiet s trap bytes h).holds
 step_balanced i s (AlignTo n) h = (align_to_quiet s n h).holds
 step_balanced i s (UseLabelAtOffset l k bytes) h = (use_label_keeps i s l k bytes h).holds
-step_balanced i s (AddUncondBranch l k bytes) h = (add_branch_keeps i s (is_jump i k bytes) false l k bytes bytes h).holds
-step_balanced i s (AddCondBranch l k bytes inverted) h = (add_branch_keeps i s (inversion i k bytes inverted) true l k bytes inverted h).holds
+step_balanced i s (AddUncondBranch l k bytes) h = (add_branch_keeps i s (is_jump i k bytes) l k bytes None h).holds
+step_balanced i s (AddCondBranch l k bytes inverted) h = (add_branch_keeps i s (inversion i k bytes inverted) l k bytes (Some inverted) h).holds
 step_balanced i s (DeferTrap trap) h = (defer_trap_quiet s trap h).holds
 step_balanced i s (RegisterConstant size align) h = (register_constant_quiet i s size align h).holds
 step_balanced i s (GetLabelForConstant n) h = (get_label_for_constant_quiet s n h).holds

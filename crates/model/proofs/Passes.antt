@@ -1,14 +1,13 @@
 -- What each step of an island keeps, holds after the island: P while uses are patched, and Q, which follows from it, while
 -- traps and constants are written.
-use Rattle.std.proofs.Common.{◌≡◌, ℕ, ◌+◌, ◌-◌, ◌≤◌, Bool, true, false, not, ◌&&◌, ltb, leb, List, [], ◌∷◌, ◌++◌, length, drop, Some, None, Option, sym, refl, append_assoc, append-nil, arith}
+use Rattle.std.proofs.Common.{◌≡◌, ℕ, ◌+◌, ◌-◌, ◌≤◌, Bool, true, not, ◌&&◌, ltb, leb, List, [], ◌∷◌, ◌++◌, length, drop, Some, None, Ok, Err, Option, Result, sym, refl, append_assoc, append-nil, arith}
 use Rattle.std.specs.List.{AllByRecursion}
 use Rattle.std.proofs.lemmas.Bool.{ltb-false, leb-true, and_parts, not-false, cond_both}
-use Rattle.std.proofs.lemmas.Bool.Decides.{nat_tests}
 use Rattle.isa.specs.Isa.{Isa}
 use Rattle.model.specs.declared.rows.Fixup.{Fixup}
 use Rattle.model.specs.declared.rows.DeferredTrap.{DeferredTrap}
 use Rattle.model.specs.declared.rows.Fate.{Fate}
-use Rattle.model.specs.declared.rows.Fate.TheVariants.{ToLabel, ToVeneer, Fails}
+use Rattle.model.specs.declared.rows.Fate.TheVariants.{ToLabel, ToVeneer}
 use Rattle.model.specs.declared.refusals.Refusal.{Refusal}
 use Rattle.model.specs.Capacities.{max_code}
 use Rattle.model.specs.State.{State, cur_offset, with_code, with_fresh, with_held, with_branches, with_deferred, with_requested}
@@ -89,7 +88,7 @@ record Requested (ns : List ℕ) (s : State) : Type 0 where
   all : s.requested ≡ ns
 
 -- what becomes of a fixup
-fate_keeps : (i : Isa) (Q : Fate → Type 0) (force : Bool) (s : State) (f : Fixup) → ((place : ℕ) → Near i s f place → Q (ToLabel place)) → ((at : ℕ) → Veneered i s f at → Q (ToVeneer at)) → ((e : Refusal) → Q (Fails e)) → Q (fate i force s f)
+fate_keeps : (i : Isa) (Q : Result Fate Refusal → Type 0) (force : Bool) (s : State) (f : Fixup) → ((place : ℕ) → Near i s f place → Q (Ok (ToLabel place))) → ((at : ℕ) → Veneered i s f at → Q (Ok (ToVeneer at))) → ((e : Refusal) → Q (Err e)) → Q (fate i force s f)
 fate_keeps i Q force s f near veneer fails = by (place_of s.labels f.label) refl
   where
     to_veneer : Q (veneer_at i (cur_offset s) f)

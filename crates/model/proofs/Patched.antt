@@ -1,10 +1,10 @@
 -- Islands lose no use: the fixups that waited and those of the veneers made are patched or wait.
-use Rattle.std.proofs.Common.{◌≡◌, ℕ, zero, suc, ◌+◌, ◌≤◌, Bool, List, [], ◌∷◌, length, Some, None, Option, refl, ap, ◌∙◌, arith, length-append, length-drop}
+use Rattle.std.proofs.Common.{◌≡◌, ℕ, zero, suc, ◌+◌, ◌≤◌, Bool, List, [], ◌∷◌, length, Some, None, Ok, Err, Option, Result, refl, ap, ◌∙◌, arith, length-append, length-drop}
 use Rattle.isa.specs.Isa.{Isa}
 use Rattle.model.specs.declared.rows.Fixup.{Fixup}
 use Rattle.model.specs.declared.rows.DeferredTrap.{DeferredTrap}
 use Rattle.model.specs.declared.rows.Fate.{Fate}
-use Rattle.model.specs.declared.rows.Fate.TheVariants.{ToLabel, ToVeneer, Fails}
+use Rattle.model.specs.declared.rows.Fate.TheVariants.{ToLabel, ToVeneer}
 use Rattle.model.specs.declared.refusals.Refusal.{Refusal}
 use Rattle.model.specs.State.{State, with_branches}
 use Rattle.model.specs.Fixups.{waiting, comes_before, insert_held}
@@ -30,15 +30,15 @@ go_on_fair : (o : Option Refusal) (s : State) (p : Progress) (next : State → P
 go_on_fair None s p next f g = record { even = omega (arith, f.even, g.even); branches = g.branches ∙ f.branches }
 go_on_fair (Some e) s p next f g = f
 
-handled_fresh : (i : Isa) (x : Fate) (s : State) (f : Fixup) → 1 ≤ length s.fresh → Single s (handled i x s (less_fresh s) f)
-handled_fresh i (ToLabel place) s f h = record { fair = record { even = simp length-drop (omega arith); branches = refl }; fresh_left = simp length-drop (omega arith); held_left = omega arith }
-handled_fresh i (ToVeneer at) s f h = record { fair = record { even = simp (length-append, length-drop) (omega arith); branches = refl }; fresh_left = simp (length-append, length-drop) (omega arith); held_left = omega arith }
-handled_fresh i (Fails e) s f h = record { fair = record { even = refl; branches = refl }; fresh_left = omega arith; held_left = omega arith }
+handled_fresh : (i : Isa) (x : Result Fate Refusal) (s : State) (f : Fixup) → 1 ≤ length s.fresh → Single s (handled i x s (less_fresh s) f)
+handled_fresh i (Ok (ToLabel place)) s f h = record { fair = record { even = simp length-drop (omega arith); branches = refl }; fresh_left = simp length-drop (omega arith); held_left = omega arith }
+handled_fresh i (Ok (ToVeneer at)) s f h = record { fair = record { even = simp (length-append, length-drop) (omega arith); branches = refl }; fresh_left = simp (length-append, length-drop) (omega arith); held_left = omega arith }
+handled_fresh i (Err e) s f h = record { fair = record { even = refl; branches = refl }; fresh_left = omega arith; held_left = omega arith }
 
-handled_held : (i : Isa) (x : Fate) (s : State) (f : Fixup) → 1 ≤ length s.held → Single s (handled i x s (less_held s) f)
-handled_held i (ToLabel place) s f h = record { fair = record { even = simp length-drop (omega arith); branches = refl }; fresh_left = omega arith; held_left = simp length-drop (omega arith) }
-handled_held i (ToVeneer at) s f h = record { fair = record { even = simp (length-append, length-drop) (omega arith); branches = refl }; fresh_left = simp length-append (omega arith); held_left = simp length-drop (omega arith) }
-handled_held i (Fails e) s f h = record { fair = record { even = refl; branches = refl }; fresh_left = omega arith; held_left = omega arith }
+handled_held : (i : Isa) (x : Result Fate Refusal) (s : State) (f : Fixup) → 1 ≤ length s.held → Single s (handled i x s (less_held s) f)
+handled_held i (Ok (ToLabel place)) s f h = record { fair = record { even = simp length-drop (omega arith); branches = refl }; fresh_left = omega arith; held_left = simp length-drop (omega arith) }
+handled_held i (Ok (ToVeneer at)) s f h = record { fair = record { even = simp (length-append, length-drop) (omega arith); branches = refl }; fresh_left = simp length-append (omega arith); held_left = simp length-drop (omega arith) }
+handled_held i (Err e) s f h = record { fair = record { even = refl; branches = refl }; fresh_left = omega arith; held_left = omega arith }
 
 pub length-insert : (f : Fixup) (gs : List Fixup) → length (insert_held f gs) ≡ suc (length gs)
 length-insert f [] = refl

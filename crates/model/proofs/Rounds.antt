@@ -2,7 +2,7 @@
 use Rattle.std.proofs.Common.{◌≡◌, ℕ, zero, suc, ◌-◌, ◌<◌, ◌≤◌, Bool, true, false, not, ◌&&◌, ◌||◌, eqb, ltb, [], length}
 use Rattle.std.proofs.lemmas.Bool.{ltb-true, leb-true, eqb-true, and_parts, cond_both}
 use Rattle.model.specs.State.{State, cur_offset, with_branches}
-use Rattle.model.specs.Simplify.{last_branch, branch_before, target_of, adjoins, has_labels, cut, redirect, turn, takes_branch, Round, stop, applied, round, rounds, all_rounds, forgotten, simplified}
+use Rattle.model.specs.Simplify.{is_conditional, last_branch, branch_before, target_of, adjoins, has_labels, cut, redirect, turn, takes_branch, Round, stop, applied, round, rounds, all_rounds, forgotten, simplified}
 use Rattle.model.proofs.Cases.{either}
 
 -- the branch that a round takes stands at the end of the code
@@ -36,10 +36,10 @@ pub round_ways : (Q : Round → Type 0) (s : State) → Q (stop s)
 round_ways Q s stops cuts redirects turns =
     cond_both (takes_branch s) _ _ Q (λ e. let t = taken s e in
     cond_both (eqb (target_of s (last_branch s)) (cur_offset s)) _ _ Q (λ _. cuts t) (λ _.
-    cond_both ((last_branch s).conditional || eqb (target_of s (last_branch s)) (last_branch s).start) _ _ Q (λ _. stops) (λ _.
+    cond_both (is_conditional (last_branch s) || eqb (target_of s (last_branch s)) (last_branch s).start) _ _ Q (λ _. stops) (λ _.
     cond_both (has_labels s) _ _ Q (λ h. redirects t h) (λ _.
-    cond_both (adjoins s && not (branch_before s).conditional) _ _ Q (λ _. cuts t) (λ _.
-    cond_both (adjoins s && (branch_before s).conditional && eqb (target_of s (branch_before s)) (cur_offset s)) _ _ Q (λ e. turns t (adjoined s (and_parts _ _ (and_parts _ _ e).0).0)) (λ _. stops)))))) (λ _. stops)
+    cond_both (adjoins s && not (is_conditional (branch_before s))) _ _ Q (λ _. cuts t) (λ _.
+    cond_both (adjoins s && is_conditional (branch_before s) && eqb (target_of s (branch_before s)) (cur_offset s)) _ _ Q (λ e. turns t (adjoined s (and_parts _ _ (and_parts _ _ e).0).0)) (λ _. stops)))))) (λ _. stops)
 
 module _ {P : State → Type 0} (w : RulesKeep P) where
   pub round_keeps : (s : State) → P s → P (round s).state

@@ -1,5 +1,5 @@
 -- After every list of calls to a lawful set, the standing branches stand.
-use Rattle.std.proofs.Common.{◌≡◌, ℕ, ◌-◌, ◌<◌, ◌≤◌, Bool, false, List, [], length, get_or, take, refl, arith, length-append, length-set, length-take}
+use Rattle.std.proofs.Common.{◌≡◌, ℕ, ◌-◌, ◌<◌, ◌≤◌, false, List, [], Option, length, get_or, take, refl, arith, length-append, length-set, length-take}
 use Rattle.std.specs.List.{AllByRecursion}
 use Rattle.std.proofs.ByRecursion.{All-get_or, All-take, All-set, All-push}
 use Rattle.isa.specs.Isa.{Isa}
@@ -68,8 +68,8 @@ pub bound_steady : (s : State) (l : ℕ) → Steady s → Steady (bind s l)
 bound_steady s l k = more_steady s (bind s l) refl (omega arith) (omega arith) k
 
 -- a branch of a lawful set has one to eight bytes
-branched_steady : (i : Isa) → Lawful i → (s : State) (conditional : Bool) (l k : ℕ) (bytes inverted : List ℕ) → Steady s → Fits i s l k bytes → Steady (append_branch i s conditional l k bytes inverted)
-branched_steady i y s conditional l k bytes inverted h f =
+branched_steady : (i : Isa) → Lawful i → (s : State) (l k : ℕ) (bytes : List ℕ) (inverted : Option (List ℕ)) → Steady s → Fits i s l k bytes → Steady (append_branch i s l k bytes inverted)
+branched_steady i y s l k bytes inverted h f =
     let z : KindBounds i k = y.kind_bounds k f.kind in
     record {
       stand = stand_push _ _ _ _ s.branches _ h.stand (omega arith) (omega arith) (omega arith) (simp length-append (omega arith)) (omega arith) (simp length-append (omega arith)) (simp length-append (omega arith)) (simp length-append (omega arith));
@@ -83,7 +83,7 @@ calls_keep_steady i y = record {
   simple = simplified_keeps rules_keep_steady forgot_steady false;
   data_put = λ s trap bytes k _ _. more_steady s _ refl (simp length-append (omega arith)) (omega arith) k;
   used = λ s l n bytes k _ _. more_steady s _ refl (simp length-append (omega arith)) (simp length-append (omega arith)) k;
-  branched = λ s conditional l n bytes inverted k f _ _ _. branched_steady i y s conditional l n bytes inverted k f;
+  branched = λ s l n bytes inverted k f _ _. branched_steady i y s l n bytes inverted k f;
   trap_deferred = λ s d k _ _. more_steady s _ refl (omega arith) (omega arith) k;
   registered = λ s size align k _ _. more_steady s _ refl (omega arith) (omega arith) k;
   requested = λ s n k _ _ _. more_steady s _ refl (omega arith) (omega arith) k;

@@ -1,6 +1,7 @@
 -- The calls that build code, save islands and finishing: what each answers, and the tables after it. The refusals of a
 -- call stand in the order of checking, and a refused call changes nothing.
 use Rattle.std.specs.Prelude.{ℕ, ◌+◌, ◌-◌, ◌%◌, Bool, true, false, cond, not, ◌&&◌, ◌||◌, List, [], ◌∷◌, ◌++◌, length, ℤ, pos, negsuc, is_some, Some, None, Ok, Err, Option, Result, ◌==◌, nat_le, nat_lt}
+use Rattle.std.specs.Option.{option_map}
 use Rattle.isa.specs.declared.jumps.Role.{Role}
 use Rattle.isa.specs.declared.jumps.Role.TheVariants.{Unconditional, Conditional, NoBranch}
 use Rattle.isa.specs.Isa.{Isa}
@@ -105,14 +106,14 @@ abbrev pub widened : List ℕ → List ℕ
 widened bytes = bytes ++ zeros (8 - length bytes)
 
 -- bytes that refer to a label, and a branch that stands
-abbrev pub append_branch : Isa → State → Bool → ℕ → ℕ → List ℕ → List ℕ → State
-append_branch i s conditional l k bytes inverted =
+abbrev pub append_branch : Isa → State → ℕ → ℕ → List ℕ → Option (List ℕ) → State
+append_branch i s l k bytes inverted =
     with_branches (append_use i s l k bytes)
-    (s.branches ++ record { start = cur_offset s; end = cur_offset s + length bytes; target = l; fixup = length s.fresh; conditional = conditional; bytes = widened bytes; inverted = widened inverted } ∷ [])
+    (s.branches ++ record { start = cur_offset s; end = cur_offset s + length bytes; target = l; fixup = length s.fresh; bytes = widened bytes; inverted = option_map widened inverted } ∷ [])
 
 -- A branch is appended, and a fixup for it waits. Whether its bytes suit it was found out before.
-abbrev pub add_branch : Isa → State → Bool → Bool → ℕ → ℕ → List ℕ → List ℕ → Result ℕ Refusal × State
-add_branch i s suits conditional l k bytes inverted =
+abbrev pub add_branch : Isa → State → Bool → ℕ → ℕ → List ℕ → Option (List ℕ) → Result ℕ Refusal × State
+add_branch i s suits l k bytes inverted =
     cond s.broken (Err BrokenOff, s)
     (cond (is_open s) (Err RegionOpen, s)
     (cond (no_label s l) (Err NoSuchLabel, s)
@@ -122,7 +123,7 @@ add_branch i s suits conditional l k bytes inverted =
     (cond (fixups_full s) (Err FixupsFull, s)
     (cond (branches_full s) (Err BranchesFull, s)
     (cond (no_room s (length bytes)) (Err CodeFull, s)
-    (Ok (cur_offset s), append_branch i s conditional l k bytes inverted)))))))))
+    (Ok (cur_offset s), append_branch i s l k bytes inverted)))))))))
 
 -- a role is to jump always
 abbrev pub is_unconditional : Role → Bool
@@ -134,13 +135,13 @@ is_unconditional NoBranch = false
 abbrev pub is_jump : Isa → ℕ → List ℕ → Bool
 is_jump i k bytes = length bytes == i.size k && is_unconditional (i.role k bytes)
 
--- An unconditional branch has no inversion, and keeps its own bytes in that place.
+-- An unconditional branch has no inversion.
 abbrev pub add_uncond_branch : Isa → State → ℕ → ℕ → List ℕ → Result ℕ Refusal × State
-add_uncond_branch i s l k bytes = add_branch i s (is_jump i k bytes) false l k bytes bytes
+add_uncond_branch i s l k bytes = add_branch i s (is_jump i k bytes) l k bytes None
 
 -- A conditional branch comes with the bytes of its inversion.
 abbrev pub add_cond_branch : Isa → State → ℕ → ℕ → List ℕ → List ℕ → Result ℕ Refusal × State
-add_cond_branch i s l k bytes inverted = add_branch i s (inversion i k bytes inverted) true l k bytes inverted
+add_cond_branch i s l k bytes inverted = add_branch i s (inversion i k bytes inverted) l k bytes (Some inverted)
 
 -- The next island writes a trap. The answer is its label.
 abbrev pub defer_trap : State → ℕ → Result ℕ Refusal × State

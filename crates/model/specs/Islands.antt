@@ -4,7 +4,7 @@ use Rattle.isa.specs.Isa.{Isa}
 use Rattle.model.specs.declared.rows.Fixup.{Fixup}
 use Rattle.model.specs.declared.rows.DeferredTrap.{DeferredTrap}
 use Rattle.model.specs.declared.rows.Fate.{Fate}
-use Rattle.model.specs.declared.rows.Fate.TheVariants.{ToLabel, ToVeneer, Fails}
+use Rattle.model.specs.declared.rows.Fate.TheVariants.{ToLabel, ToVeneer}
 use Rattle.model.specs.declared.refusals.Refusal.{Refusal}
 use Rattle.model.specs.declared.refusals.Refusal.TheVariants.{BrokenOff, RegionOpen, CodeFull}
 use Rattle.model.specs.Capacities.{max_code}
@@ -23,10 +23,10 @@ threshold i s distance =
     min unknown (cur_offset s + distance + waiting s * i.worst + sum_by (λ (n : ℕ). (constant_row s n).size + (constant_row s n).align) s.requested + length s.deferred * length i.trap)
 
 -- a fixup handled: the first tables still have it, the second no more
-abbrev pub handled : Isa → Fate → State → State → Fixup → Progress
-handled i (ToLabel place) before s f = record { failed = None; state = with_code s (patch_fixup i s f place); made = 0; patched = 1; islands = 0 }
-handled i (ToVeneer at) before s f = record { failed = None; state = add_veneer i s f at; made = 1; patched = 1; islands = 0 }
-handled i (Fails e) before s f = breaks_off e before
+abbrev pub handled : Isa → Result Fate Refusal → State → State → Fixup → Progress
+handled i (Ok (ToLabel place)) before s f = record { failed = None; state = with_code s (patch_fixup i s f place); made = 0; patched = 1; islands = 0 }
+handled i (Ok (ToVeneer at)) before s f = record { failed = None; state = add_veneer i s f at; made = 1; patched = 1; islands = 0 }
+handled i (Err e) before s f = breaks_off e before
 
 -- ripe: its label is placed, or its deadline is below the threshold and a veneer exists
 abbrev pub is_ripe : Isa → ℕ → State → Fixup → Bool

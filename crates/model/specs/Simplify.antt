@@ -1,5 +1,6 @@
 -- Simplifying the branches at the end of the code.
-use Rattle.std.specs.Prelude.{ℕ, zero, suc, ◌+◌, ◌-◌, Bool, true, false, cond, not, ◌&&◌, ◌||◌, List, [], map, length, take, ◌==◌, nat_le, nat_lt, slice_index_or, slice_set}
+use Rattle.std.specs.Prelude.{ℕ, zero, suc, ◌+◌, ◌-◌, Bool, true, false, cond, not, ◌&&◌, ◌||◌, List, [], map, length, take, None, is_some, ◌==◌, nat_le, nat_lt, slice_index_or, slice_set}
+use Rattle.std.specs.Option.{unwrap_or, option_map}
 use Rattle.model.specs.declared.rows.Fixup.{Fixup}
 use Rattle.model.specs.declared.rows.Branch.{Branch}
 use Rattle.model.specs.Capacities.{max_labels_at_branch}
@@ -9,11 +10,15 @@ use Rattle.model.specs.Labels.{offset_of, moved, aliased, standing, bound_count}
 
 -- what stands for a branch where there is none
 abbrev pub no_branch : Branch
-no_branch = record { start = 0; end = 0; target = 0; fixup = 0; conditional = false; bytes = zeros 8; inverted = zeros 8 }
+no_branch = record { start = 0; end = 0; target = 0; fixup = 0; bytes = zeros 8; inverted = None }
 
 -- what stands for a fixup where there is none
 abbrev pub no_fixup : Fixup
 no_fixup = record { label = 0; offset = unknown; kind = 0; deadline = 0 }
+
+-- a branch is conditional exactly where it has an inversion
+abbrev pub is_conditional : Branch → Bool
+is_conditional b = is_some b.inverted
 
 -- the last standing branch
 abbrev pub last_branch : State → Branch
@@ -46,9 +51,9 @@ cut s =
 abbrev pub redirect : State → State
 redirect s = let b = last_branch s in with_labels s (map (aliased b.start b.target) s.labels)
 
--- a branch with its bytes and its inversion swapped, to another label
+-- a branch to another label, with its bytes and its inversion swapped where it has one
 abbrev pub turned : Branch → ℕ → Branch
-turned b l = record { start = b.start; end = b.end; target = l; fixup = b.fixup; conditional = b.conditional; bytes = b.inverted; inverted = b.bytes }
+turned b l = record { start = b.start; end = b.end; target = l; fixup = b.fixup; bytes = unwrap_or b.inverted b.bytes; inverted = option_map (λ (x : List ℕ). b.bytes) b.inverted }
 
 -- as many bytes as a branch has
 abbrev pub bytes_of : Branch → List ℕ
@@ -86,18 +91,18 @@ rule_1 s otherwise = cond (target_of s (last_branch s) == cur_offset s) (applied
 -- target and stand there no longer; where any stood, a new round begins.
 abbrev pub rule_2 : State → Round → Round
 rule_2 s otherwise =
-    cond ((last_branch s).conditional || target_of s (last_branch s) == (last_branch s).start) (stop s)
+    cond (is_conditional (last_branch s) || target_of s (last_branch s) == (last_branch s).start) (stop s)
     (cond (has_labels s) (applied 0 (redirect s)) otherwise)
 
 -- If the branch before is unconditional and adjoins, cut the last.
 abbrev pub rule_3 : State → Round → Round
-rule_3 s otherwise = cond (adjoins s && not (branch_before s).conditional) (applied 1 (cut s)) otherwise
+rule_3 s otherwise = cond (adjoins s && not (is_conditional (branch_before s))) (applied 1 (cut s)) otherwise
 
 -- If the branch before is conditional, adjoins and has a target at the current offset, cut the last. The earlier branch is
 -- turned round and takes the target of the last.
 abbrev pub rule_4 : State → Round → Round
 rule_4 s otherwise =
-    cond (adjoins s && (branch_before s).conditional && target_of s (branch_before s) == cur_offset s)
+    cond (adjoins s && is_conditional (branch_before s) && target_of s (branch_before s) == cur_offset s)
     (applied 1 (turn (cut s) (length s.branches - 2) (last_branch s).target))
     otherwise
 

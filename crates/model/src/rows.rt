@@ -1,8 +1,7 @@
 // The rows of a buffer's tables.
 ghost use Rattle.std.specs.Prelude.{◌≡◌};
 ghost use Rattle.model.specs.Labels.{unbound, moved, aliased};
-
-use crate::refusals::Refusal;
+ghost use Rattle.model.specs.Simplify.{is_conditional, turned};
 
 /// Where a label is that stands nowhere, and the cap of deadlines.
 pub const UNKNOWN: u32 = 4294967295;
@@ -81,11 +80,39 @@ pub struct Branch {
     pub target: u32,
     /// the index of its fixup among the fresh ones
     pub fixup: u32,
-    pub conditional: bool,
+    // Bytes and inversion are arrays of the largest size with zeros behind, not slices with a length: a branch owns small
+    // arrays by value, which are copied and swapped.
     /// its bytes, with zeros after them
     pub bytes: [u8; 8],
-    /// the bytes of its inversion, with zeros after them
-    pub inverted: [u8; 8],
+    /// the bytes of its inversion, with zeros after them, if it is conditional
+    pub inverted: Option<[u8; 8]>,
+}
+
+impl Branch {
+    /// Whether a condition decides if it jumps: exactly where it has an inversion.
+    pub fn is_conditional(&self) -> bool
+        ensures { result ≡ is_conditional self.now }
+    {
+        self.inverted.is_some()
+    }
+
+    /// A branch to another label, with its bytes and its inversion swapped where it has one.
+    pub fn turned(self, label: u32) -> Branch
+        ensures { result ≡ turned self label }
+    {
+        match self.inverted {
+            Some(inverted) => Branch {
+                target: label,
+                bytes: inverted,
+                inverted: Some(self.bytes),
+                ..self
+            },
+            None => Branch {
+                target: label,
+                ..self
+            },
+        }
+    }
 }
 
 /// A trap that the next island writes.
@@ -125,13 +152,11 @@ pub struct Region {
     pub len: u32,
 }
 
-/// What an island does with a fixup whose turn has come.
+/// What an island does with a fixup whose turn has come, unless it breaks off.
 #[derive(Clone, Copy)]
 pub enum Fate {
     /// it is patched to its label's offset
     ToLabel(u32),
     /// it is patched to a veneer, which is written at the offset
     ToVeneer(u32),
-    /// the island breaks off
-    Fails(Refusal),
 }

@@ -2,7 +2,7 @@
 use Rattle.std.specs.Prelude.{ℕ, ◌+◌, ◌-◌, Bool, true, false, cond, not, ◌&&◌, ◌||◌, List, [], ◌∷◌, length, ◌==◌}
 use Rattle.model.specs.Labels.{bound_count}
 use Rattle.model.specs.State.{State, cur_offset}
-use Rattle.model.specs.Simplify.{last_branch, branch_before, target_of, adjoins, has_labels, cut, redirect, turn}
+use Rattle.model.specs.Simplify.{is_conditional, last_branch, branch_before, target_of, adjoins, has_labels, cut, redirect, turn}
 use Rattle.simplification.specs.declared.rules.Rule.{Rule}
 use Rattle.simplification.specs.declared.rules.Rule.TheVariants.{CutToNext, Redirect, CutUnreached, TurnBefore}
 use Rattle.simplification.specs.declared.rules.Outcome.{Outcome}
@@ -11,11 +11,11 @@ use Rattle.simplification.specs.declared.rules.Outcome.TheVariants.{Applied, Sto
 abbrev pub apply : Rule → State → Outcome × State
 apply CutToNext s = cond (target_of s (last_branch s) == cur_offset s) (Applied, cut s) (Passed, s)
 apply Redirect s =
-    cond ((last_branch s).conditional || target_of s (last_branch s) == (last_branch s).start) (Stopped, s)
+    cond (is_conditional (last_branch s) || target_of s (last_branch s) == (last_branch s).start) (Stopped, s)
     (cond (has_labels s) (Applied, redirect s) (Passed, s))
-apply CutUnreached s = cond (adjoins s && not (branch_before s).conditional) (Applied, cut s) (Passed, s)
+apply CutUnreached s = cond (adjoins s && not (is_conditional (branch_before s))) (Applied, cut s) (Passed, s)
 apply TurnBefore s =
-    cond (adjoins s && (branch_before s).conditional && target_of s (branch_before s) == cur_offset s)
+    cond (adjoins s && is_conditional (branch_before s) && target_of s (branch_before s) == cur_offset s)
     (Applied, turn (cut s) (length s.branches - 2) (last_branch s).target)
     (Passed, s)
 

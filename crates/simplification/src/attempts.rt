@@ -26,7 +26,7 @@ fn turn_round(tables: &mut Tables, n: usize, label: u32)
     ensures { view tables.new ≡ turn (view tables.old) n label }
 {
     let branch = tables.standing_branch(n);
-    let bytes = branch.inverted;
+    let bytes = branch.turned(label).bytes;
     let size = (branch.end - branch.start) as usize;
     tables.invert_branch(n, label);
     tables.retarget_fixup(branch.fixup as usize, label);
@@ -52,7 +52,9 @@ fn redirect_labels(tables: &mut Tables) -> Outcome
     ensures { (result, view tables.new) ≡ apply Redirect (view tables.old) }
 {
     let branch = tables.last_branch_of();
-    if branch.conditional || resolve(tables.labels.rows.as_slice(), branch.target) == branch.start {
+    if branch.is_conditional()
+        || resolve(tables.labels.rows.as_slice(), branch.target) == branch.start
+    {
         return Outcome::Stopped;
     }
     if count_standing(tables.labels.rows.as_slice(), branch.start) == 0 {
@@ -67,14 +69,13 @@ fn cut_unreached(tables: &mut Tables) -> Outcome
     requires { 0 < vec_len tables.old.branches.rows }
     ensures { (result, view tables.new) ≡ apply CutUnreached (view tables.old) }
 {
-    let Some(before) = tables.adjoining_branch() else {
-        return Outcome::Passed;
-    };
-    if before.conditional {
-        return Outcome::Passed;
+    match tables.adjoining_branch() {
+        Some(before) if !before.is_conditional() => {
+            cut_last_branch(tables);
+            Outcome::Applied
+        }
+        _ => Outcome::Passed,
     }
-    cut_last_branch(tables);
-    Outcome::Applied
 }
 
 // The conditional before it only jumps over it: that is turned round, and it is cut.
@@ -85,7 +86,7 @@ fn turn_before(tables: &mut Tables) -> Outcome
     let Some(before) = tables.adjoining_branch() else {
         return Outcome::Passed;
     };
-    if !before.conditional
+    if !before.is_conditional()
         || resolve(tables.labels.rows.as_slice(), before.target) as usize
             != tables.code.rows.len()
     {
@@ -99,6 +100,7 @@ fn turn_before(tables: &mut Tables) -> Outcome
 }
 
 /// Tries a rule on the last standing branch.
+// A rule of the project: the rounds go over the rules by a loop, so that this is a switch on which one to try.
 pub fn apply_rule(tables: &mut Tables, rule: Rule) -> Outcome
     requires { 0 < vec_len tables.old.branches.rows }
     ensures { (result, view tables.new) ≡ apply rule (view tables.old) }

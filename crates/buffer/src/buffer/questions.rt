@@ -37,24 +37,14 @@ impl<S: InstructionSet + Drop> MachBuffer<S> {
         let veneers = waiting_len(&self.tables) as u64 * self.set.worst_case_veneer_size() as u64;
         let traps = self.tables.deferred.rows.len() as u64 * self.set.trap_opcode().len() as u64;
         let code = cur_offset(&self.tables) as u64 + distance as u64;
-        let far = code + veneers + requested_room(&self.tables) + traps;
-        if far < UNKNOWN as u64 {
-            far
-        } else {
-            UNKNOWN as u64
-        }
+        (code + veneers + requested_room(&self.tables) + traps).min(UNKNOWN as u64)
     }
 
     /// Whether a fixup may come out of reach if so many bytes follow before the next island.
     pub fn island_needed(&self, distance: u32) -> bool
         ensures { result ≡ island_needed (S.meaning self.now.set) (view self.now) distance }
     {
-        let held = held_deadline(&self.tables);
-        let least = if self.tables.deadline < held {
-            self.tables.deadline
-        } else {
-            held
-        };
+        let least = self.tables.deadline.min(held_deadline(&self.tables));
         least < self.threshold_after(distance)
     }
 

@@ -1,6 +1,7 @@
 // Bytes that refer to a label, and branches.
-ghost use Rattle.std.specs.Prelude.{◌≡◌, ◌+◌, ◌<◌, ◌≤◌, true, length, vec_len};
-ghost use Rattle.model.specs.Calls.{is_use, is_jump, is_unconditional, append_use, append_branch, use_label_at_offset, add_uncond_branch, add_cond_branch};
+ghost use Rattle.std.specs.Prelude.{◌≡◌, ◌+◌, ◌-◌, ◌<◌, ◌≤◌, length, IfSome, vec_len};
+ghost use Rattle.std.specs.Option.{option_copied};
+ghost use Rattle.model.specs.Calls.{is_use, is_jump, append_use, append_branch, use_label_at_offset, add_uncond_branch, add_cond_branch};
 ghost use Rattle.model.specs.Fixups.{fixup_at};
 ghost use Rattle.model.specs.State.{cur_offset};
 ghost use Rattle.buffer.specs.Checks.{check_target, place_branch};
@@ -22,37 +23,31 @@ fn can_be_use<S: InstructionSet>(set: &S, kind: u32, bytes: &[u8]) -> bool
         && (!set.is_adding(kind) || set.read(kind, bytes) == 0)
 }
 
-fn always_jumps(role: Role) -> bool
-    ensures { result ≡ is_unconditional role }
-{
-    match role {
-        Role::Unconditional => true,
-        Role::Conditional { .. } => false,
-        Role::NoBranch => false,
-    }
-}
-
 // Whether bytes are an unconditional branch of a kind.
 fn can_be_jump<S: InstructionSet>(set: &S, kind: u32, bytes: &[u8]) -> bool
     requires { kind < (S.meaning set.now).kinds }
     ensures { result ≡ is_jump (S.meaning set.now) kind bytes.now }
 {
-    bytes.len() == set.patch_size(kind) as usize && always_jumps(set.role(kind, bytes))
+    bytes.len() == set.patch_size(kind) as usize
+        && matches!(set.role(kind, bytes), Role::Unconditional)
 }
 
 impl<S: InstructionSet + Drop> MachBuffer<S> {
-    // The fixup of a use of a kind at the current offset.
-    fn fixup_here(&self, label: u32, kind: u32) -> Fixup
+    // The fixup of a use of a kind at the current offset, and the fresh deadline that it brings.
+    fn use_here(&self, label: u32, kind: u32) -> (Fixup, u64)
         requires { kind < (S.meaning self.now.set).kinds }
-        ensures { result ≡ fixup_at (S.meaning self.now.set) label (cur_offset (view self.now)) kind }
+        ensures fixup { result.0 ≡ fixup_at (S.meaning self.now.set) label (cur_offset (view self.now)) kind }
+        ensures soon { result.1 ≡ (result.0).deadline - (S.meaning self.now.set).align }
     {
         let offset = cur_offset(&self.tables);
-        Fixup {
+        let fixup = Fixup {
             label,
             offset,
             kind,
             deadline: offset as u64 + self.set.max_pos_range(kind) as u64,
-        }
+        };
+        let soon = fixup.deadline.saturating_sub(self.set.align() as u64);
+        (fixup, soon)
     }
 
     // Appends bytes with a fixup for them.
@@ -63,8 +58,7 @@ impl<S: InstructionSet + Drop> MachBuffer<S> {
         ensures tables { view self.new ≡ append_use (S.meaning self.old.set) (view self.old) label kind bytes.now }
         ensures set { self.new.set ≡ self.old.set }
     {
-        let fixup = self.fixup_here(label, kind);
-        let soon = fixup.deadline.saturating_sub(self.set.align() as u64);
+        let (fixup, soon) = self.use_here(label, kind);
         self.tables.append_use(fixup, soon, bytes);
     }
 
@@ -116,48 +110,34 @@ impl<S: InstructionSet + Drop> MachBuffer<S> {
     }
 
     // Appends a branch whose bytes have the kind's length.
-    fn append_branch(
-        &mut self,
-        conditional: bool,
-        label: u32,
-        kind: u32,
-        bytes: &[u8],
-        inverted: &[u8],
-    )
+    fn append_branch(&mut self, label: u32, kind: u32, bytes: &[u8], inverted: Option<&[u8]>)
         requires kind { kind < (S.meaning self.old.set).kinds }
         requires long { length bytes.now ≡ (S.meaning self.old.set).size kind }
-        requires inverted_long { length inverted.now ≡ (S.meaning self.old.set).size kind }
+        requires inverted_long { IfSome inverted (λ x. length x.now ≡ (S.meaning self.old.set).size kind) }
         requires fixups { vec_len self.old.tables.fresh.rows + vec_len self.old.tables.held.rows < 4096 }
         requires branches { vec_len self.old.tables.branches.rows < 512 }
         requires code { vec_len self.old.tables.code.rows + length bytes.now ≤ 65536 }
-        ensures tables { view self.new ≡ append_branch (S.meaning self.old.set) (view self.old) conditional label kind bytes.now inverted.now }
+        ensures tables { view self.new ≡ append_branch (S.meaning self.old.set) (view self.old) label kind bytes.now (option_copied inverted.entry) }
         ensures set { self.new.set ≡ self.old.set }
     {
-        let fixup = self.fixup_here(label, kind);
-        let soon = fixup.deadline.saturating_sub(self.set.align() as u64);
-        self.tables
-            .append_branch(conditional, fixup, soon, bytes, inverted);
+        let (fixup, soon) = self.use_here(label, kind);
+        self.tables.append_branch(fixup, soon, bytes, inverted);
     }
 
-    // Appends a branch, if its bytes suit it and there is a place for it.
+    // Appends a branch whose bytes have the kind's length, if there is a place for it.
     fn add_branch(
         &mut self,
-        suits: bool,
-        conditional: bool,
         label: u32,
         kind: u32,
         bytes: &[u8],
-        inverted: &[u8],
+        inverted: Option<&[u8]>,
     ) -> Result<u32, Refusal>
         requires kind { kind < (S.meaning self.old.set).kinds }
-        requires long { suits ≡ true → length bytes.now ≡ (S.meaning self.old.set).size kind }
-        requires inverted_long { suits ≡ true → length inverted.now ≡ (S.meaning self.old.set).size kind }
-        ensures tables { (result, view self.new) ≡ place_branch (S.meaning self.old.set) (view self.old) suits conditional label kind bytes.now inverted.now }
+        requires long { length bytes.now ≡ (S.meaning self.old.set).size kind }
+        requires inverted_long { IfSome inverted (λ x. length x.now ≡ (S.meaning self.old.set).size kind) }
+        ensures tables { (result, view self.new) ≡ place_branch (S.meaning self.old.set) (view self.old) label kind bytes.now (option_copied inverted.entry) }
         ensures set { self.new.set ≡ self.old.set }
     {
-        if !suits {
-            return Err(Refusal::BadBytes);
-        }
         let offset = self.tables.code.rows.len();
         if offset as u32 % self.set.align() != 0 {
             return Err(Refusal::NotAligned);
@@ -171,7 +151,7 @@ impl<S: InstructionSet + Drop> MachBuffer<S> {
         if bytes.len() > MAX_CODE - offset {
             return Err(Refusal::CodeFull);
         }
-        self.append_branch(conditional, label, kind, bytes, inverted);
+        self.append_branch(label, kind, bytes, inverted);
         Ok(offset as u32)
     }
 
@@ -181,8 +161,10 @@ impl<S: InstructionSet + Drop> MachBuffer<S> {
         ensures set { self.new.set ≡ self.old.set }
     {
         self.check_target(label, kind)?;
-        let suits = can_be_jump(&self.set, kind, bytes);
-        self.add_branch(suits, false, label, kind, bytes, bytes)
+        if !can_be_jump(&self.set, kind, bytes) {
+            return Err(Refusal::BadBytes);
+        }
+        self.add_branch(label, kind, bytes, None)
     }
 
     /// Appends a conditional branch to a label, with the bytes of its inversion. The answer is its offset.
@@ -197,7 +179,9 @@ impl<S: InstructionSet + Drop> MachBuffer<S> {
         ensures set { self.new.set ≡ self.old.set }
     {
         self.check_target(label, kind)?;
-        let suits = is_inversion(&self.set, kind, bytes, inverted);
-        self.add_branch(suits, true, label, kind, bytes, inverted)
+        if !is_inversion(&self.set, kind, bytes, inverted) {
+            return Err(Refusal::BadBytes);
+        }
+        self.add_branch(label, kind, bytes, Some(inverted))
     }
 }

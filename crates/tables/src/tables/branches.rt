@@ -1,5 +1,6 @@
 // Branches that stand.
-ghost use Rattle.std.specs.Prelude.{◌≡◌, ◌+◌, ◌<◌, ◌≤◌, [], ◌∷◌, ◌++◌, length, if◌then◌else◌, Some, None, vec_len, slice_index_or};
+ghost use Rattle.std.specs.Prelude.{◌≡◌, ◌+◌, ◌<◌, ◌≤◌, [], ◌∷◌, ◌++◌, length, if◌then◌else◌, Some, None, IfSome, vec_len, slice_index_or};
+ghost use Rattle.std.specs.Option.{option_copied};
 ghost use Rattle.model.specs.Simplify.{no_branch, last_branch, branch_before, adjoins, forgotten};
 ghost use Rattle.model.specs.State.{with_branches};
 ghost use Rattle.tables.specs.Edits.{with_branch, drop_last, turn_branch, retarget};
@@ -21,18 +22,12 @@ impl Tables {
 
     /// The branch before the last, where one ends where the last begins.
     pub fn adjoining_branch(&self) -> Option<Branch>
-        requires { 0 < vec_len self.now.branches.rows }
         ensures { result ≡ (if adjoins (view self.now) then Some (branch_before (view self.now)) else None) }
     {
-        let n = self.branches.rows.len();
-        if n < 2 {
+        let [.., before, last] = self.branches.rows.as_slice() else {
             return None;
-        }
-        let before = self.branches.rows[n - 2];
-        if before.end != self.last_branch_of().start {
-            return None;
-        }
-        Some(before)
+        };
+        (before.end == last.start).then_some(*before)
     }
 
     /// A standing branch, with what is known of each.
@@ -62,35 +57,25 @@ impl Tables {
     }
 
     /// Appends a branch and a fixup for it, where there is room for both.
-    pub fn append_branch(
-        &mut self,
-        conditional: bool,
-        fixup: Fixup,
-        soon: u64,
-        bytes: &[u8],
-        inverted: &[u8],
-    )
+    pub fn append_branch(&mut self, fixup: Fixup, soon: u64, bytes: &[u8], inverted: Option<&[u8]>)
         requires some { 0 < length bytes.now }
         requires few { length bytes.now ≤ 8 }
-        requires inverted_few { length inverted.now ≤ 8 }
+        requires inverted_few { IfSome inverted (λ x. length x.now ≤ 8) }
         requires fixups { vec_len self.old.fresh.rows + vec_len self.old.held.rows < 4096 }
         requires branches { vec_len self.old.branches.rows < 512 }
         requires code { vec_len self.old.code.rows + length bytes.now ≤ 65536 }
-        ensures { view self.new ≡ with_branch (view self.old) conditional fixup soon bytes.now inverted.now }
+        ensures { view self.new ≡ with_branch (view self.old) fixup soon bytes.now (option_copied inverted.entry) }
     {
         let start = self.code.rows.len() as u32;
         let number = self.fresh.rows.len() as u32;
-        let own = widen(bytes);
-        let other = widen(inverted);
         self.append_use(fixup, soon, bytes);
         self.push_branch(Branch {
             start,
             end: start + bytes.len() as u32,
             target: fixup.label,
             fixup: number,
-            conditional,
-            bytes: own,
-            inverted: other,
+            bytes: widen(bytes),
+            inverted: inverted.map(widen),
         });
     }
 
@@ -99,28 +84,17 @@ impl Tables {
         requires { 0 < vec_len self.old.branches.rows }
         ensures { view self.new ≡ drop_last (view self.old) }
     {
-        let last = self.branches.rows.len() - 1;
-        let branch = self.branches.rows[last];
-        self.code.rows.truncate(branch.start as usize);
-        self.branches.rows.truncate(last);
-        let fixups = self.fresh.rows.len().saturating_sub(1);
-        self.fresh.rows.truncate(fixups);
+        let last = self.branches.rows.take_last();
+        self.code.rows.truncate(last.start as usize);
+        let _ = self.fresh.rows.pop();
     }
 
-    /// A branch swaps its bytes with its inversion, and leads to another label.
+    /// A branch swaps its bytes with its inversion, where it has one, and leads to another label.
     pub fn invert_branch(&mut self, n: usize, label: u32)
         requires { n < vec_len self.old.branches.rows }
         ensures { view self.new ≡ turn_branch (view self.old) n label }
     {
-        let branch = self.branches.rows[n];
-        let bytes = branch.bytes;
-        let inverted = branch.inverted;
-        self.branches.rows[n] = Branch {
-            target: label,
-            bytes: inverted,
-            inverted: bytes,
-            ..branch
-        };
+        self.branches.rows[n] = self.branches.rows[n].turned(label);
     }
 
     /// A fixup takes another label.
@@ -135,11 +109,10 @@ impl Tables {
     pub fn forget(&mut self)
         ensures { view self.new ≡ forgotten (view self.old) }
     {
-        let n = self.branches.rows.len();
-        if n == 0 {
+        let Some(last) = self.branches.rows.last() else {
             return;
-        }
-        if (self.branches.rows[n - 1].end as usize) < self.code.rows.len() {
+        };
+        if (last.end as usize) < self.code.rows.len() {
             self.branches.rows.clear();
         }
     }

@@ -10,14 +10,13 @@ impl Tables {
     /// Appends bytes with a fixup for them, where there is room for both. The fresh deadline becomes `soon` at the
     /// latest.
     pub fn append_use(&mut self, fixup: Fixup, soon: u64, bytes: &[u8])
+        // That there is room is true of a moment, not of every value of the tables, so that no type can hold it.
         requires fixups { vec_len self.old.fresh.rows + vec_len self.old.held.rows < 4096 }
         requires code { vec_len self.old.code.rows + length bytes.now ≤ 65536 }
         ensures { view self.new ≡ with_use (view self.old) fixup soon bytes.now }
     {
         self.fresh.rows.push_reserved(fixup);
-        if soon < self.deadline {
-            self.deadline = soon;
-        }
+        self.deadline = self.deadline.min(soon);
         self.append_bytes(bytes);
     }
 }
