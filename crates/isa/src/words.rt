@@ -122,8 +122,8 @@ fn branch_of<S: WordSet>(set: &S, kind: u32, code: &[u8]) -> Found
     }
 }
 
-/// The branch at the head of the code, of the first of some kinds that it is one of.
-pub fn branch_at_head<S: WordSet>(set: &S, kinds: &[u32], code: &[u8]) -> Option<Found>
+// The branch at the head of the code, of the first of some kinds that it is one of.
+fn branch_at_head<S: WordSet>(set: &S, kinds: &[u32], code: &[u8]) -> Option<Found>
     requires { All (λ k. k < (S.encoding set.now).kinds) kinds.now }
     ensures { (other : FoundValue) → unwrap_or result other ≡ branch_at_head (S.encoding set.now) kinds.now code.now other }
 {
@@ -133,4 +133,12 @@ pub fn branch_at_head<S: WordSet>(set: &S, kinds: &[u32], code: &[u8]) -> Option
         }
     }
     None
+}
+
+/// The branch at an offset of the code, of the first of some kinds that it is one of.
+pub fn find<S: WordSet>(set: &S, kinds: &[u32], code: &[u8], offset: usize) -> Option<Found>
+    requires { All (λ k. k < (S.encoding set.now).kinds) kinds.now }
+    ensures { (other : FoundValue) → unwrap_or result other ≡ branch_at_head (S.encoding set.now) kinds.now (drop offset code.now) other }
+{
+    branch_at_head(set, kinds, code_from(code, offset))
 }

@@ -1,5 +1,5 @@
 -- What RISC-V means to a code buffer.
-use Rattle.std.specs.Prelude.{ℕ, false, List, [], ◌∷◌, drop, ◌==◌, slice_index}
+use Rattle.std.specs.Prelude.{false, [], ◌∷◌, drop, ◌==◌, slice_index}
 use Rattle.bits.specs.Words.{to_bytes}
 use Rattle.isa.specs.declared.jumps.Found.TheVariants.{NoJump}
 use Rattle.isa.specs.Isa.{Isa}

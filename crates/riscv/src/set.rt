@@ -93,6 +93,6 @@ impl InstructionSet for RiscV {
     }
 
     fn find(&self, code: &[u8], offset: usize) -> Found {
-        words::branch_at_head(self, &[B12, J20], words::code_from(code, offset)).unwrap_or(Found::NoJump)
+        words::find(self, &[B12, J20], code, offset).unwrap_or(Found::NoJump)
     }
 }

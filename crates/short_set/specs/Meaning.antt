@@ -1,5 +1,5 @@
 -- What this made-up set means to a code buffer.
-use Rattle.std.specs.Prelude.{ℕ, ◌+◌, false, List, [], ◌∷◌, drop, nat_lt, slice_index}
+use Rattle.std.specs.Prelude.{◌+◌, false, [], ◌∷◌, drop, nat_lt, slice_index}
 use Rattle.bits.specs.Words.{to_bytes}
 use Rattle.isa.specs.declared.jumps.Found.TheVariants.{NoJump}
 use Rattle.isa.specs.Isa.{Isa}

@@ -96,6 +96,6 @@ impl InstructionSet for Short {
     }
 
     fn find(&self, code: &[u8], offset: usize) -> Found {
-        words::branch_at_head(self, &[BRANCH, JUMP, FAR], words::code_from(code, offset)).unwrap_or(Found::NoJump)
+        words::find(self, &[BRANCH, JUMP, FAR], code, offset).unwrap_or(Found::NoJump)
     }
 }
