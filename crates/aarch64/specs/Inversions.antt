@@ -6,16 +6,18 @@ use Rattle.bits.specs.Fields.{Piece, get, put, flip, piece, scatter}
 use Rattle.bits.specs.Words.{word, to_bytes}
 use Rattle.bits.proofs.LittleEndian.{word_fits, word-to_bytes}
 use Rattle.bits.proofs.OneField.{put-fits}
-use Rattle.bits.proofs.Scattered.{clear, laid, scatter-fits}
+use Rattle.bits.proofs.Scattered.{apart, clear, laid, scatter-fits}
 use Rattle.bits.proofs.Senses.{get-flip, sense_flip, word-flip, reading-flip, rest_flip, rest_same}
 use Rattle.isa.specs.declared.jumps.Condition.{Condition}
-use Rattle.isa.specs.declared.jumps.Family.TheVariants.{Flags, Zero}
+use Rattle.isa.specs.declared.jumps.Family.{Family}
+use Rattle.isa.specs.declared.jumps.Family.TheVariants.{Flags, Zero, Bit}
 use Rattle.isa.specs.declared.jumps.Role.{Role}
 use Rattle.isa.specs.declared.jumps.Role.TheVariants.{Conditional}
 use Rattle.isa.specs.Roles.{family_index}
 use Rattle.isa.proofs.Conditionals.{passed, no_conditional, never_conditional}
-use Rattle.aarch64.specs.Meaning.{aarch64, turned, rest_word}
-use Rattle.aarch64.specs.Roles.{condition, is_kept, is_flags, sense_bit, test_role, compare_role, flags_role, branch19_role, role_of}
+use Rattle.isa.specs.Words.{turned, rest_word}
+use Rattle.aarch64.specs.Meaning.{aarch64, aarch64_words}
+use Rattle.aarch64.specs.Roles.{condition, is_kept, is_flags, sense_bit, register_role, test_role, compare_role, flags_role, branch19_role, role_of}
 use Rattle.aarch64.specs.KindTables.{below_6}
 use Rattle.aarch64.specs.RoleLaws.{p14, p19, flags_bits}
 
@@ -33,17 +35,13 @@ test_sense w c s e =
     let t = (and_parts (get 25 6 w == 0x1b) (is_kept w) (passed _ _ c _ s e).test).0 in
     cond-false (is_flags w) 0 24 (not_flags w 0x1b refl (eqb-true (get 25 6 w) 0x1b t))
 
-test_turned : (w : ℕ) (c : Condition) (s : Bool) → test_role w ≡ Conditional c s → test_role (flip 24 w) ≡ Conditional c (not s)
-test_turned w c s e =
+-- a register's test keeps its place outside the sense
+register_turned : (f : Family) (n a b w : ℕ) (c : Condition) (s : Bool) → T (apart (piece 24 1 0) (piece a b 0)) → register_role f n (get a b w) w ≡ Conditional c s
+    → register_role f n (get a b (flip 24 w)) (flip 24 w) ≡ Conditional c (not s)
+register_turned f n a b w c s t e =
     let k = get-flip 24 in
     let p = passed _ _ c _ s e in
-    rw (k 25 6 w tt, k 1 4 w tt, k 19 5 w tt, k 0 5 w tt, sense_flip 24 w, p.test, p.sense) (ap (λ (x : Condition). Conditional x (not s)) p.condition)
-
-compare_turned : (w : ℕ) (c : Condition) (s : Bool) → compare_role w ≡ Conditional c s → compare_role (flip 24 w) ≡ Conditional c (not s)
-compare_turned w c s e =
-    let k = get-flip 24 in
-    let p = passed _ _ c _ s e in
-    rw (k 25 6 w tt, k 1 4 w tt, k 31 1 w tt, k 0 5 w tt, sense_flip 24 w, p.test, p.sense) (ap (λ (x : Condition). Conditional x (not s)) p.condition)
+    rw (k a b w t, k 25 6 w tt, k 1 4 w tt, k 0 5 w tt, sense_flip 24 w, p.test, p.sense) (ap (λ (x : Condition). Conditional x (not s)) p.condition)
 
 flags_turned : (w : ℕ) (c : Condition) (s : Bool) → flags_role w ≡ Conditional c s → flags_role (flip 0 w) ≡ Conditional c (not s)
 flags_turned w c s e =
@@ -59,12 +57,12 @@ by_flags w P f g =
       | inr e ↦ rw e (g e)
     ]
 
-turned_role : (k : ℕ) → k < 6 → (w : ℕ) (c : Condition) (s : Bool) → role_of k w ≡ Conditional c s → role_of k (turned w) ≡ Conditional c (not s)
-turned_role = below_6 (λ k. (w : ℕ) (c : Condition) (s : Bool) → role_of k w ≡ Conditional c s → role_of k (turned w) ≡ Conditional c (not s))
-    (λ w c s e. ap (λ (p : ℕ). test_role (flip p w)) (test_sense w c s e) ∙ test_turned w c s e)
+turned_role : (k : ℕ) → k < 6 → (w : ℕ) (c : Condition) (s : Bool) → role_of k w ≡ Conditional c s → role_of k (turned aarch64_words w) ≡ Conditional c (not s)
+turned_role = below_6 (λ k. (w : ℕ) (c : Condition) (s : Bool) → role_of k w ≡ Conditional c s → role_of k (turned aarch64_words w) ≡ Conditional c (not s))
+    (λ w c s e. ap (λ (p : ℕ). test_role (flip p w)) (test_sense w c s e) ∙ register_turned Bit 0x1b 19 5 w c s tt e)
     (λ w c s. by_flags w (λ p r. r ≡ Conditional c s → branch19_role (flip p w) ≡ Conditional c (not s))
     (λ f e. rw (get-flip 0 25 7 w tt, f) (flags_turned w c s e))
-    (λ f e. rw (get-flip 24 25 7 w tt, f) (compare_turned w c s e)))
+    (λ f e. rw (get-flip 24 25 7 w tt, f) (register_turned Zero 0x1a 31 1 w c s tt e)))
     (λ w c s e. absurd (no_conditional _ c s e))
     (λ w c s e. absurd (never_conditional c s e)) (λ w c s e. absurd (never_conditional c s e)) (λ w c s e. absurd (never_conditional c s e))
 
@@ -76,7 +74,7 @@ sense_low w =
       | inr e ↦ rw e (lit< tt)
     ]
 
-word_turned : (b : List ℕ) → word 4 (to_bytes 4 (turned (word 4 b))) ≡ turned (word 4 b)
+word_turned : (b : List ℕ) → word 4 (to_bytes 4 (turned aarch64_words (word 4 b))) ≡ turned aarch64_words (word 4 b)
 word_turned b = word-flip 4 (sense_bit (word 4 b)) b (sense_low (word 4 b))
 
 pub inverted_role : (k : ℕ) → k < 6 → (b : List ℕ) (c : Condition) (s : Bool) → aarch64.role k b ≡ Conditional c s → aarch64.role k (aarch64.inverted k b) ≡ Conditional c (not s)
@@ -92,15 +90,15 @@ inverted_reads = below_6 (λ k. (b : List ℕ) (c : Condition) (s : Bool) → aa
     (λ b c s e. absurd (never_conditional c s e)) (λ b c s e. absurd (never_conditional c s e)) (λ b c s e. absurd (never_conditional c s e))
 
 -- turning does not move the sense
-sense_turned : (w : ℕ) → sense_bit (turned w) ≡ sense_bit w
+sense_turned : (w : ℕ) → sense_bit (turned aarch64_words w) ≡ sense_bit w
 sense_turned w =
     elim (cases_Bool (is_flags w)) [
       | inl e ↦ rw e (rw (get-flip 0 25 7 w tt, e))
       | inr e ↦ rw e (rw (get-flip 24 25 7 w tt, e))
     ]
 
-rest_turned : (k : ℕ) → k < 6 → (b : List ℕ) (c : Condition) (s : Bool) → aarch64.role k b ≡ Conditional c s → rest_word k (turned (word 4 b)) ≡ rest_word k (word 4 b)
-rest_turned = below_6 (λ k. (b : List ℕ) (c : Condition) (s : Bool) → aarch64.role k b ≡ Conditional c s → rest_word k (turned (word 4 b)) ≡ rest_word k (word 4 b))
+rest_turned : (k : ℕ) → k < 6 → (b : List ℕ) (c : Condition) (s : Bool) → aarch64.role k b ≡ Conditional c s → rest_word aarch64_words k (turned aarch64_words (word 4 b)) ≡ rest_word aarch64_words k (word 4 b)
+rest_turned = below_6 (λ k. (b : List ℕ) (c : Condition) (s : Bool) → aarch64.role k b ≡ Conditional c s → rest_word aarch64_words k (turned aarch64_words (word 4 b)) ≡ rest_word aarch64_words k (word 4 b))
     (λ b c s e. rw (sense_turned (word 4 b), test_sense (word 4 b) c s e) (rest_flip 32 24 p14 (word 4 b) tt (lit< tt) (word_fits 4 b)))
     (λ b c s. by_flags (word 4 b) (λ p r. r ≡ Conditional c s → put (sense_bit (flip p (word 4 b))) 1 (scatter p19 (flip p (word 4 b)) 0) 0 ≡ put p 1 (scatter p19 (word 4 b) 0) 0)
     (λ f e. rw (get-flip 0 25 7 (word 4 b) tt, f) (rest_flip 32 0 p19 (word 4 b) tt (lit< tt) (word_fits 4 b)))
@@ -109,7 +107,7 @@ rest_turned = below_6 (λ k. (b : List ℕ) (c : Condition) (s : Bool) → aarch
     (λ b c s e. absurd (never_conditional c s e)) (λ b c s e. absurd (never_conditional c s e)) (λ b c s e. absurd (never_conditional c s e))
 
 pub inverted_rest : (k : ℕ) → k < 6 → (b : List ℕ) (c : Condition) (s : Bool) → aarch64.role k b ≡ Conditional c s → aarch64.rest k (aarch64.inverted k b) ≡ aarch64.rest k b
-inverted_rest k h b c s e = ap (λ (w : ℕ). to_bytes 4 (rest_word k w)) (word_turned b) ∙ ap (to_bytes 4) (rest_turned k h b c s e)
+inverted_rest k h b c s e = ap (λ (w : ℕ). to_bytes 4 (rest_word aarch64_words k w)) (word_turned b) ∙ ap (to_bytes 4) (rest_turned k h b c s e)
 
 -- equal conditions have their sense at the same bit, and of one value
 pub record SameSense (v w : ℕ) : Type 0 where

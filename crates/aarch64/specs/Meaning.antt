@@ -1,22 +1,16 @@
 -- What AArch64 means to a code buffer.
 use Rattle.std.specs.Prelude.{ℕ, Bool, cond, ◌&&◌, List, [], ◌∷◌, ◌++◌, length, take, drop, pos, ◌+ℤ◌, ◌==◌, nat_le, nat_lt, slice_index}
-use Rattle.bits.specs.Fields.{put, flip}
-use Rattle.bits.specs.Formats.{reading, patching, clearing, clear_field}
+use Rattle.bits.specs.Formats.{reading}
 use Rattle.bits.specs.Words.{word, to_bytes}
 use Rattle.isa.specs.declared.jumps.Found.{Found}
 use Rattle.isa.specs.declared.jumps.Found.TheVariants.{Veneer, NoJump}
-use Rattle.isa.specs.Finding.{branch_among}
 use Rattle.isa.specs.Isa.{Isa, Veneer as VeneerCode}
+use Rattle.isa.specs.Words.{Encoding, reads, patched, outside, role, rest, inverted, branch_at_head}
 use Rattle.aarch64.specs.Fields.{format}
 use Rattle.aarch64.specs.Roles.{role_of, sense_bit}
 
--- the word with its sense turned round
-abbrev pub turned : ℕ → ℕ
-turned w = flip (sense_bit w) w
-
--- the word with the field of kind k and the sense cleared
-abbrev pub rest_word : ℕ → ℕ → ℕ
-rest_word k w = put (sense_bit w) 1 (clear_field (format k) w) 0
+abbrev pub aarch64_words : Encoding
+aarch64_words = record { kinds = 6; format = format; role = role_of; sense = sense_bit }
 
 -- b 0
 abbrev pub short_veneer : VeneerCode
@@ -44,8 +38,7 @@ long_jump code = cond (is_long_veneer code) (Veneer (pos 16 +ℤ reading (format
 
 -- what stands at the head of the code
 abbrev pub jump_at_head : List ℕ → Found
-jump_at_head code =
-    branch_among (λ k. 4) (λ k b. role_of k (word 4 b)) (λ k b. reading (format k) b) (0 ∷ 1 ∷ 2 ∷ []) code (long_jump code)
+jump_at_head code = branch_at_head aarch64_words (0 ∷ 1 ∷ 2 ∷ []) code (long_jump code)
 
 abbrev pub aarch64 : Isa
 aarch64 = record {
@@ -55,12 +48,12 @@ aarch64 = record {
   max_neg = λ k. slice_index (32768 ∷ 1048576 ∷ 134217728 ∷ 1048576 ∷ 1048576 ∷ 2147483648 ∷ []) k;
   size = λ k. 4;
   adds = λ k. (k == 5);
-  reads = λ k b. reading (format k) b;
-  patched = λ k b d. patching (format k) b d;
-  outside = λ k b. clearing (format k) b;
-  role = λ k b. role_of k (word 4 b);
-  rest = λ k b. to_bytes 4 (rest_word k (word 4 b));
-  inverted = λ k b. to_bytes 4 (turned (word 4 b));
+  reads = reads aarch64_words;
+  patched = patched aarch64_words;
+  outside = outside aarch64_words;
+  role = role aarch64_words;
+  rest = rest aarch64_words;
+  inverted = λ k b. inverted aarch64_words b;
   supports = λ k. nat_lt k 3;
   veneer = λ k. cond (k == 2) long_veneer short_veneer;
   chain = λ k. slice_index (2 ∷ 2 ∷ 1 ∷ []) k;

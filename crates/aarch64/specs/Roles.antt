@@ -14,16 +14,19 @@ condition f test register = record { family = f; test = test; first = register; 
 abbrev pub is_kept : ℕ → Bool
 is_kept w = not (get 1 4 w == 8)
 
--- TBZ and TBNZ: bits 30 to 25 are 011011. The bit number is in bits 23 to 19 and the register in bits 4 to 0; bit
--- 24 tells the two apart.
-abbrev pub test_role : ℕ → Role
-test_role w =
-    cond (get 25 6 w == 0x1b && is_kept w) (Conditional (condition Bit (get 19 5 w) (get 0 5 w)) (get 24 1 w == 1)) NoBranch
+-- A test of a register, by bits 30 to 25 of the word. The register is in bits 4 to 0; bit 24 tells the two of a pair
+-- apart.
+abbrev pub register_role : Family → ℕ → ℕ → ℕ → Role
+register_role f opcode test w =
+    cond (get 25 6 w == opcode && is_kept w) (Conditional (condition f test (get 0 5 w)) (get 24 1 w == 1)) NoBranch
 
--- CBZ and CBNZ: bits 30 to 25 are 011010. Bit 31 is the register's width; bit 24 tells the two apart.
+-- TBZ and TBNZ: bits 30 to 25 are 011011, and the bit number is in bits 23 to 19.
+abbrev pub test_role : ℕ → Role
+test_role w = register_role Bit 0x1b (get 19 5 w) w
+
+-- CBZ and CBNZ: bits 30 to 25 are 011010, and bit 31 is the register's width.
 abbrev pub compare_role : ℕ → Role
-compare_role w =
-    cond (get 25 6 w == 0x1a && is_kept w) (Conditional (condition Zero (get 31 1 w) (get 0 5 w)) (get 24 1 w == 1)) NoBranch
+compare_role w = register_role Zero 0x1a (get 31 1 w) w
 
 -- B.cond: bits 31 to 25 are 0101010, and bits 24 and 4 are 0; with bit 4 set it is BC.cond. The condition is in
 -- bits 3 to 1, of which 111 is always, and bit 0 turns it round.

@@ -1,68 +1,58 @@
-// Displacements in words.
-ghost use Rattle.std.specs.Prelude.{◌≡◌, ◌<◌, length, pos, negsuc, ◌≤ℤ◌};
-ghost use Rattle.bits.specs.Formats.{reading, rewriting, clear_field};
-ghost use Rattle.aarch64.specs.Fields.{format};
-ghost use Rattle.aarch64.specs.Meaning.{turned, rest_word};
+// Displacements, branches and senses in words.
+ghost use Rattle.std.specs.Prelude.{◌≡◌};
+ghost use Rattle.aarch64.specs.KindTables.{formatted};
+ghost use Rattle.aarch64.specs.Meaning.{aarch64_words};
 
-use crate::roles::sense_bit_of;
-use crate::set::{ADR21, BRANCH14, BRANCH19, BRANCH26, LDR19, PC_REL32};
-use bits::{copy_piece, flip_bit, get_field, put_field, read_word, sign_extend};
+use crate::roles::{branch19_role_of, jump_role_of, sense_bit_of, test_role_of};
+use crate::set::{AArch64, ADR21, BRANCH14, BRANCH19, BRANCH26, LDR19, PC_REL32};
+use bits::{copy_piece, get_field, read_word, sign_extend};
+use isa::Role;
+use isa::words::WordSet;
 
-// The word with a displacement's bits in the field of a kind.
-pub fn rewrite(kind: u32, code: u32, bits: u32) -> u32
-    requires { kind < 6 }
-    ensures { result ≡ rewriting (format kind) code bits }
-{
-    match kind {
-        BRANCH14 => copy_piece(code, 5, 14, bits, 2),
-        BRANCH19 | LDR19 => copy_piece(code, 5, 19, bits, 2),
-        BRANCH26 => copy_piece(code, 0, 26, bits, 2),
-        ADR21 => copy_piece(copy_piece(code, 5, 19, bits, 2), 29, 2, bits, 0),
-        _ => code.wrapping_add(bits),
+impl WordSet for AArch64 {
+    ghost encoding = { λ _. aarch64_words };
+
+    ghost words = { λ _. formatted.wide };
+
+    fn rewrite(&self, kind: u32, code: u32, bits: u32) -> u32 {
+        match kind {
+            BRANCH14 => copy_piece(code, 5, 14, bits, 2),
+            BRANCH19 | LDR19 => copy_piece(code, 5, 19, bits, 2),
+            BRANCH26 => copy_piece(code, 0, 26, bits, 2),
+            ADR21 => copy_piece(copy_piece(code, 5, 19, bits, 2), 29, 2, bits, 0),
+            _ => code.wrapping_add(bits),
+        }
     }
-}
 
-// The displacement in the field of a kind.
-pub fn displacement_in(kind: u32, bytes: &[u8]) -> i64
-    requires kind_bound { kind < 6 }
-    requires word_long { length bytes.now ≡ 4 }
-    ensures value { result ≡ reading (format kind) bytes.now }
-    ensures up { result ≤ℤ pos 2147483647 }
-    ensures down { negsuc 2147483647 ≤ℤ result }
-{
-    let code = read_word(bytes);
-    match kind {
-        BRANCH14 => sign_extend(get_field(code, 5, 14) * 4, 15),
-        BRANCH19 | LDR19 => sign_extend(get_field(code, 5, 19) * 4, 20),
-        BRANCH26 => sign_extend(get_field(code, 0, 26) * 4, 27),
-        ADR21 => sign_extend(get_field(code, 29, 2) + get_field(code, 5, 19) * 4, 20),
-        _ => sign_extend(code, 31),
+    fn clear(&self, kind: u32, code: u32) -> u32 {
+        if kind == PC_REL32 {
+            0
+        } else {
+            self.rewrite(kind, code, 0)
+        }
     }
-}
 
-// The word of a conditional with its sense turned round.
-pub fn turn(code: u32) -> u32
-    ensures { result ≡ turned code }
-{
-    flip_bit(code, sense_bit_of(code))
-}
-
-// The word with the field of a kind cleared.
-fn clear(kind: u32, code: u32) -> u32
-    requires { kind < 6 }
-    ensures { result ≡ clear_field (format kind) code }
-{
-    if kind == PC_REL32 {
-        0
-    } else {
-        rewrite(kind, code, 0)
+    fn displacement_in(&self, kind: u32, bytes: &[u8]) -> i64 {
+        let code = read_word(bytes);
+        match kind {
+            BRANCH14 => sign_extend(get_field(code, 5, 14) * 4, 15),
+            BRANCH19 | LDR19 => sign_extend(get_field(code, 5, 19) * 4, 20),
+            BRANCH26 => sign_extend(get_field(code, 0, 26) * 4, 27),
+            ADR21 => sign_extend(get_field(code, 29, 2) + get_field(code, 5, 19) * 4, 20),
+            _ => sign_extend(code, 31),
+        }
     }
-}
 
-// The word of a conditional with its field and its sense cleared.
-pub fn rest(kind: u32, code: u32) -> u32
-    requires { kind < 6 }
-    ensures { result ≡ rest_word kind code }
-{
-    put_field(clear(kind, code), sense_bit_of(code), 1, 0)
+    fn role_of_word(&self, kind: u32, code: u32) -> Role {
+        match kind {
+            BRANCH14 => test_role_of(code),
+            BRANCH19 => branch19_role_of(code),
+            BRANCH26 => jump_role_of(code),
+            _ => Role::NoBranch,
+        }
+    }
+
+    fn sense_bit(&self, code: u32) -> u32 {
+        sense_bit_of(code)
+    }
 }

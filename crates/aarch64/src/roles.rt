@@ -1,6 +1,6 @@
 // Which words are branches.
 ghost use Rattle.std.specs.Prelude.{◌≡◌};
-ghost use Rattle.aarch64.specs.Roles.{condition, is_kept, is_flags, test_role, compare_role, flags_role, branch19_role, jump_role, sense_bit};
+ghost use Rattle.aarch64.specs.Roles.{condition, is_kept, is_flags, register_role, test_role, compare_role, flags_role, branch19_role, jump_role, sense_bit};
 
 use bits::get_field;
 use isa::{Condition, Family, Role};
@@ -23,13 +23,13 @@ fn is_kept_register(code: u32) -> bool
     get_field(code, 1, 4) != 8
 }
 
-// TBZ and TBNZ.
-pub fn test_role_of(code: u32) -> Role
-    ensures { result ≡ test_role code }
+// A test of a register, by the opcode and by what is tested of the register.
+fn register_role_of(code: u32, opcode: u32, family: Family, test: u32) -> Role
+    ensures { result ≡ register_role family opcode test code }
 {
-    if get_field(code, 25, 6) == 0x1b && is_kept_register(code) {
+    if get_field(code, 25, 6) == opcode && is_kept_register(code) {
         Role::Conditional {
-            condition: condition_of(Family::Bit, get_field(code, 19, 5), get_field(code, 0, 5)),
+            condition: condition_of(family, test, get_field(code, 0, 5)),
             sense: get_field(code, 24, 1) == 1,
         }
     } else {
@@ -37,18 +37,18 @@ pub fn test_role_of(code: u32) -> Role
     }
 }
 
+// TBZ and TBNZ.
+pub fn test_role_of(code: u32) -> Role
+    ensures { result ≡ test_role code }
+{
+    register_role_of(code, 0x1b, Family::Bit, get_field(code, 19, 5))
+}
+
 // CBZ and CBNZ.
 fn compare_role_of(code: u32) -> Role
     ensures { result ≡ compare_role code }
 {
-    if get_field(code, 25, 6) == 0x1a && is_kept_register(code) {
-        Role::Conditional {
-            condition: condition_of(Family::Zero, get_field(code, 31, 1), get_field(code, 0, 5)),
-            sense: get_field(code, 24, 1) == 1,
-        }
-    } else {
-        Role::NoBranch
-    }
+    register_role_of(code, 0x1a, Family::Zero, get_field(code, 31, 1))
 }
 
 // B.cond, and words beside it that are none.

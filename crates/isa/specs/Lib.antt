@@ -4,3 +4,4 @@ pub mod Laws
 pub mod Patches
 pub mod Refusals
 pub mod Roles
+pub mod Words

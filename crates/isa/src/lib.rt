@@ -17,6 +17,7 @@ pub mod jumps;
 mod patch;
 mod refusals;
 mod set;
+pub mod words;
 
 pub use jumps::{Condition, Family, Found, Role};
 pub use patch::{check_patch, checked_patch, is_inversion};

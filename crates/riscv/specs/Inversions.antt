@@ -11,12 +11,13 @@ use Rattle.bits.proofs.Senses.{get-flip, sense_flip, word-flip, reading-flip, re
 use Rattle.isa.specs.declared.jumps.Condition.{Condition}
 use Rattle.isa.specs.declared.jumps.Role.TheVariants.{Conditional}
 use Rattle.isa.proofs.Conditionals.{passed, no_conditional}
-use Rattle.riscv.specs.Meaning.{riscv, turned, rest_word}
+use Rattle.isa.specs.Words.{turned, rest_word}
+use Rattle.riscv.specs.Meaning.{riscv, riscv_words}
 use Rattle.riscv.specs.Roles.{branch_role}
 use Rattle.riscv.specs.KindTables.{below_2}
 use Rattle.riscv.specs.RoleLaws.{b_type}
 
-word_turned : (b : List ℕ) → word 4 (to_bytes 4 (turned (word 4 b))) ≡ turned (word 4 b)
+word_turned : (b : List ℕ) → word 4 (to_bytes 4 (turned riscv_words (word 4 b))) ≡ turned riscv_words (word 4 b)
 word_turned b = word-flip 4 12 b (lit< tt)
 
 branch_turned : (w : ℕ) (c : Condition) (s : Bool) → branch_role w ≡ Conditional c s → branch_role (flip 12 w) ≡ Conditional c (not s)
@@ -37,10 +38,10 @@ inverted_reads = below_2 (λ k. (b : List ℕ) (c : Condition) (s : Bool) → ri
 
 pub inverted_rest : (k : ℕ) → k < 2 → (b : List ℕ) (c : Condition) (s : Bool) → riscv.role k b ≡ Conditional c s → riscv.rest k (riscv.inverted k b) ≡ riscv.rest k b
 inverted_rest = below_2 (λ k. (b : List ℕ) (c : Condition) (s : Bool) → riscv.role k b ≡ Conditional c s → riscv.rest k (riscv.inverted k b) ≡ riscv.rest k b)
-    (λ b c s e. ap (λ (w : ℕ). to_bytes 4 (rest_word 0 w)) (word_turned b) ∙ ap (to_bytes 4) (rest_flip 32 12 b_type (word 4 b) tt (lit< tt) (word_fits 4 b)))
+    (λ b c s e. ap (λ (w : ℕ). to_bytes 4 (rest_word riscv_words 0 w)) (word_turned b) ∙ ap (to_bytes 4) (rest_flip 32 12 b_type (word 4 b) tt (lit< tt) (word_fits 4 b)))
     (λ b c s e. absurd (no_conditional _ c s e))
 
-rest_fits : (b : List ℕ) → rest_word 0 (word 4 b) < 4294967296
+rest_fits : (b : List ℕ) → rest_word riscv_words 0 (word 4 b) < 4294967296
 rest_fits b = put-fits 32 12 1 (scatter b_type (word 4 b) 0) 0 (lib.Dec.lit≤ tt) (scatter-fits 32 b_type (word 4 b) 0 tt (word_fits 4 b)) (lit< tt)
 
 pub rest_outside : (k : ℕ) → k < 2 → (b c : List ℕ) (x : Condition) (s : Bool) → riscv.role k b ≡ Conditional x s → riscv.role k c ≡ Conditional x s → riscv.rest k b ≡ riscv.rest k c → riscv.outside k b ≡ riscv.outside k c

@@ -1,16 +1,8 @@
 // The set.
-ghost use Rattle.std.specs.Prelude.{◌≡◌, ◌<◌, ◌≤◌, length};
-ghost use Rattle.bits.specs.Formats.{reading};
-ghost use Rattle.bits.specs.Words.{word};
-ghost use Rattle.isa.specs.Finding.{is_branch_at, branch_at};
-ghost use Rattle.riscv.specs.Fields.{format};
-ghost use Rattle.riscv.specs.Meaning.{riscv, jump_at_head};
-ghost use Rattle.riscv.specs.Roles.{role_of};
+ghost use Rattle.riscv.specs.Meaning.{riscv};
 ghost use Rattle.riscv.specs.Lawful.{riscv_lawful};
 
-use crate::encoding::{displacement_in, rest, rewrite, turn};
-use crate::roles::{branch_role_of, jump_role_of};
-use bits::{low_bits, read_word, write_word};
+use isa::words::{self, WordSet};
 use isa::{Found, InstructionSet, Role};
 
 /// BEQ, BNE, BLT, BGE, BLTU and BGEU
@@ -24,51 +16,6 @@ pub struct RiscV;
 
 // jal x0, 0
 const VENEER: [u8; 4] = [0x6f, 0, 0, 0];
-
-// The role of a word as a use of a kind.
-fn role_of_word(kind: u32, code: u32) -> Role
-    ensures { result ≡ role_of kind code }
-{
-    match kind {
-        B12 => branch_role_of(code),
-        J20 => jump_role_of(code),
-        _ => Role::NoBranch,
-    }
-}
-
-// Whether the head of the code is a branch, as a use of a kind.
-fn begins_branch(kind: u32, code: &[u8]) -> bool
-    ensures { result ≡ is_branch_at 4 (λ b. role_of kind (word 4 b)) code.now }
-{
-    code.len() >= 4 && role_of_word(kind, read_word(&code[0..4])).is_branch()
-}
-
-// The branch at the head of the code.
-fn branch_of(kind: u32, code: &[u8]) -> Found
-    requires kind_bound { kind < 2 }
-    requires has_word { 4 ≤ length code.now }
-    ensures { result ≡ branch_at 4 (λ b. role_of kind (word 4 b)) (λ b. reading (format kind) b) code.now }
-{
-    let head = &code[0..4];
-    Found::Branch {
-        role: role_of_word(kind, read_word(head)),
-        size: 4,
-        displacement: displacement_in(kind, head),
-    }
-}
-
-// What stands at the head of the code.
-fn jump_of(code: &[u8]) -> Found
-    ensures { result ≡ jump_at_head code.now }
-{
-    if begins_branch(B12, code) {
-        return branch_of(B12, code);
-    }
-    if begins_branch(J20, code) {
-        return branch_of(J20, code);
-    }
-    Found::NoJump
-}
 
 impl InstructionSet for RiscV {
     ghost meaning = { λ _. riscv };
@@ -105,25 +52,23 @@ impl InstructionSet for RiscV {
     }
 
     fn read(&self, kind: u32, bytes: &[u8]) -> i64 {
-        displacement_in(kind, bytes)
+        self.displacement_in(kind, bytes)
     }
 
     fn patch(&self, kind: u32, bytes: &mut [u8], displacement: i64) {
-        let patched = rewrite(kind, read_word(bytes), low_bits(displacement));
-        write_word(bytes, patched);
+        words::patch(self, kind, bytes, displacement);
     }
 
     fn role(&self, kind: u32, bytes: &[u8]) -> Role {
-        role_of_word(kind, read_word(bytes))
+        words::role(self, kind, bytes)
     }
 
     fn same_rest(&self, kind: u32, bytes: &[u8], other: &[u8]) -> bool {
-        rest(kind, read_word(bytes)) == rest(kind, read_word(other))
+        words::same_rest(self, kind, bytes, other)
     }
 
     fn invert(&self, _kind: u32, bytes: &mut [u8]) {
-        let turned = turn(read_word(bytes));
-        write_word(bytes, turned);
+        words::invert(self, bytes);
     }
 
     fn supports_veneer(&self, kind: u32) -> bool {
@@ -148,10 +93,6 @@ impl InstructionSet for RiscV {
     }
 
     fn find(&self, code: &[u8], offset: usize) -> Found {
-        if offset <= code.len() {
-            jump_of(&code[offset..])
-        } else {
-            Found::NoJump
-        }
+        words::find(self, &[B12, J20], code, offset).unwrap_or(Found::NoJump)
     }
 }

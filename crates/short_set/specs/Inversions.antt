@@ -10,11 +10,12 @@ use Rattle.bits.proofs.Senses.{get-flip, sense_flip, word-flip, reading-flip, re
 use Rattle.isa.specs.declared.jumps.Condition.{Condition}
 use Rattle.isa.specs.declared.jumps.Role.TheVariants.{Conditional}
 use Rattle.isa.proofs.Conditionals.{passed, no_conditional, never_conditional}
-use Rattle.short_set.specs.Meaning.{short, turned, rest_word}
+use Rattle.isa.specs.Words.{turned, rest_word}
+use Rattle.short_set.specs.Meaning.{short, short_words}
 use Rattle.short_set.specs.Roles.{role_of}
 use Rattle.short_set.specs.KindTables.{below_4, near}
 
-word_turned : (b : List ℕ) → word 4 (to_bytes 4 (turned (word 4 b))) ≡ turned (word 4 b)
+word_turned : (b : List ℕ) → word 4 (to_bytes 4 (turned short_words (word 4 b))) ≡ turned short_words (word 4 b)
 word_turned b = word-flip 4 8 b (lit< tt)
 
 branch_turned : (w : ℕ) (c : Condition) (s : Bool) → role_of 0 w ≡ Conditional c s → role_of 0 (flip 8 w) ≡ Conditional c (not s)
@@ -39,9 +40,9 @@ inverted_reads = conditional (λ k b c s. short.reads k (short.inverted k b) ≡
 
 pub inverted_rest : (k : ℕ) → k < 4 → (b : List ℕ) (c : Condition) (s : Bool) → short.role k b ≡ Conditional c s → short.rest k (short.inverted k b) ≡ short.rest k b
 inverted_rest = conditional (λ k b c s. short.rest k (short.inverted k b) ≡ short.rest k b)
-    (λ b c s e. ap (λ (w : ℕ). to_bytes 4 (rest_word 0 w)) (word_turned b) ∙ ap (to_bytes 4) (rest_flip 32 8 near (word 4 b) tt (lit< tt) (word_fits 4 b)))
+    (λ b c s e. ap (λ (w : ℕ). to_bytes 4 (rest_word short_words 0 w)) (word_turned b) ∙ ap (to_bytes 4) (rest_flip 32 8 near (word 4 b) tt (lit< tt) (word_fits 4 b)))
 
-rest_fits : (b : List ℕ) → rest_word 0 (word 4 b) < 4294967296
+rest_fits : (b : List ℕ) → rest_word short_words 0 (word 4 b) < 4294967296
 rest_fits b = put-fits 32 8 1 (scatter near (word 4 b) 0) 0 (lit≤ tt) (scatter-fits 32 near (word 4 b) 0 tt (word_fits 4 b)) (lit< tt)
 
 pub rest_outside : (k : ℕ) → k < 4 → (b c : List ℕ) (x : Condition) (s : Bool) → short.role k b ≡ Conditional x s → short.role k c ≡ Conditional x s → short.rest k b ≡ short.rest k c → short.outside k b ≡ short.outside k c

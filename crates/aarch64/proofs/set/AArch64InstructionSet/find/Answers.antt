@@ -1,13 +1,11 @@
-use Rattle.std.proofs.Common.{length, sym, ap, ◌∙◌, arith}
-use Rattle.std.proofs.lemmas.List.{drop_all}
-use Rattle.std.proofs.lemmas.Slice.{between_to_end}
-use Rattle.aarch64.specs.Meaning.{jump_at_head}
+use Rattle.std.proofs.Common.{drop, ap, ◌∙◌}
+use Rattle.aarch64.specs.Meaning.{long_jump}
 use Rattle.aarch64.proofs.set.AArch64InstructionSet.find.Goals as goal
 
-pub returns-then-offset-code : goal.returns-then-offset-code
-returns-then-offset-code c =
-    let code = c.args.code.now in
-    c.jump_of.ensures ∙ ap jump_at_head (between_to_end code c.args.offset (length code) (omega arith))
+pub returns-in-Some : goal.returns-in-Some
+returns-in-Some c = c.in-Some.ensures (long_jump (drop c.args.offset c.args.code.now))
 
-pub returns-else-offset-code : goal.returns-else-offset-code
-returns-else-offset-code c = sym (ap jump_at_head (drop_all c.args.offset c.args.code.now (omega arith)))
+pub returns-in-None : goal.returns-in-None
+returns-in-None c =
+    let head = drop c.args.offset c.args.code.now in
+    c.long_jump_of.ensures ∙ ap long_jump c.code_from.ensures ∙ c.in-None.ensures (long_jump head)

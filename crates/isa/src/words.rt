@@ -1,0 +1,144 @@
+// Sets whose uses are words of four bytes.
+//
+// Such a set says where displacements stand in its words, which words are branches, and which bit is a
+// conditional's sense. What its methods do to bytes follows from that, and is written here once for all of them.
+ghost use Rattle.std.specs.Prelude.{◌≡◌, ℕ, ◌^◌, ◌<◌, ◌≤◌, length, drop, unwrap_or};
+ghost use Rattle.std.specs.List.{All};
+ghost use Rattle.std.specs.Int.Signed.{mag};
+ghost use Rattle.bits.specs.Formats.{width, reading, rewriting, clear_field};
+ghost use Rattle.isa.specs.declared.jumps.Found.{Found as FoundValue};
+ghost use Rattle.isa.specs.Finding.{is_branch_at, branch_at};
+ghost use Rattle.isa.specs.Roles.{same};
+ghost use Rattle.isa.specs.Words.{Encoding, reads, patched, role, turned, inverted, rest_word, rest, branch_at_head};
+
+use crate::jumps::{Found, Role};
+use bits::{flip_bit, low_bits, put_field, read_word, write_word};
+
+/// What is particular to a set of words.
+pub trait WordSet {
+    // Where displacements stand, which words are branches, and which bit is the sense.
+    ghost encoding: { Self → Encoding };
+
+    /// The word with a displacement's bits in the field of a kind.
+    fn rewrite(&self, kind: u32, code: u32, bits: u32) -> u32
+        requires { kind < (encoding self.now).kinds }
+        ensures { result ≡ rewriting ((encoding self.now).format kind) code bits };
+
+    /// The word with the field of a kind cleared.
+    fn clear(&self, kind: u32, code: u32) -> u32
+        requires { kind < (encoding self.now).kinds }
+        ensures { result ≡ clear_field ((encoding self.now).format kind) code };
+
+    /// The displacement in the field of a kind.
+    fn displacement_in(&self, kind: u32, bytes: &[u8]) -> i64
+        requires kind_bound { kind < (encoding self.now).kinds }
+        requires word_long { length bytes.now ≡ 4 }
+        ensures { result ≡ reads (encoding self.now) kind bytes.now };
+
+    /// The role of a word as a use of a kind.
+    fn role_of_word(&self, kind: u32, code: u32) -> Role
+        ensures { result ≡ (encoding self.now).role kind code };
+
+    /// The bit that holds the sense.
+    fn sense_bit(&self, code: u32) -> u32
+        ensures value { result ≡ (encoding self.now).sense code }
+        ensures within { result < 32 };
+
+    // Each field stands in a word of four bytes.
+    ghost words: { (s : Self) (k : ℕ) → k < (encoding s).kinds → width ((encoding s).format k) ≡ 4 };
+}
+
+/// Writes a displacement.
+pub fn patch<S: WordSet>(set: &S, kind: u32, bytes: &mut [u8], displacement: i64)
+    requires kind_bound { kind < (S.encoding set.now).kinds }
+    requires word_long { length bytes.old ≡ 4 }
+    requires small { mag displacement < 2 ^ 31 }
+    ensures { bytes.new ≡ patched (S.encoding set.now) kind bytes.old displacement }
+{
+    let patched = set.rewrite(kind, read_word(bytes), low_bits(displacement));
+    write_word(bytes, patched);
+}
+
+/// What the bytes do when they are run.
+pub fn role<S: WordSet>(set: &S, kind: u32, bytes: &[u8]) -> Role
+    requires { length bytes.now ≡ 4 }
+    ensures { result ≡ role (S.encoding set.now) kind bytes.now }
+{
+    set.role_of_word(kind, read_word(bytes))
+}
+
+// The word of a conditional with its field and its sense cleared.
+fn rest_of_word<S: WordSet>(set: &S, kind: u32, code: u32) -> u32
+    requires { kind < (S.encoding set.now).kinds }
+    ensures { result ≡ rest_word (S.encoding set.now) kind code }
+{
+    put_field(set.clear(kind, code), set.sense_bit(code), 1, 0)
+}
+
+/// Whether the bytes of two conditionals are equal but for the field and the sense.
+pub fn same_rest<S: WordSet>(set: &S, kind: u32, bytes: &[u8], other: &[u8]) -> bool
+    requires kind_bound { kind < (S.encoding set.now).kinds }
+    requires word_long { length bytes.now ≡ 4 }
+    requires other_word_long { length other.now ≡ 4 }
+    ensures { result ≡ same (rest (S.encoding set.now) kind bytes.now) (rest (S.encoding set.now) kind other.now) }
+{
+    rest_of_word(set, kind, read_word(bytes)) == rest_of_word(set, kind, read_word(other))
+}
+
+/// Turns the sense of a conditional's bytes round.
+pub fn invert<S: WordSet>(set: &S, bytes: &mut [u8])
+    requires { length bytes.old ≡ 4 }
+    ensures { bytes.new ≡ inverted (S.encoding set.now) bytes.old }
+{
+    let code = read_word(bytes);
+    write_word(bytes, flip_bit(code, set.sense_bit(code)));
+}
+
+/// The code from an offset on, which is empty past the end.
+pub fn code_from(code: &[u8], offset: usize) -> &[u8]
+    ensures { result.now ≡ drop offset code.now }
+{
+    &code[offset.min(code.len())..]
+}
+
+// Whether the head of the code is a branch, as a use of a kind.
+fn begins_branch<S: WordSet>(set: &S, kind: u32, code: &[u8]) -> bool
+    ensures { result ≡ is_branch_at 4 (role (S.encoding set.now) kind) code.now }
+{
+    code.len() >= 4 && role(set, kind, &code[0..4]).is_branch()
+}
+
+// The branch at the head of the code.
+fn branch_of<S: WordSet>(set: &S, kind: u32, code: &[u8]) -> Found
+    requires kind_bound { kind < (S.encoding set.now).kinds }
+    requires has_word { 4 ≤ length code.now }
+    ensures { result ≡ branch_at 4 (role (S.encoding set.now) kind) (reads (S.encoding set.now) kind) code.now }
+{
+    let head = &code[0..4];
+    Found::Branch {
+        role: role(set, kind, head),
+        size: 4,
+        displacement: set.displacement_in(kind, head),
+    }
+}
+
+// The branch at the head of the code, of the first of some kinds that it is one of.
+fn branch_at_head<S: WordSet>(set: &S, kinds: &[u32], code: &[u8]) -> Option<Found>
+    requires { All (λ k. k < (S.encoding set.now).kinds) kinds.now }
+    ensures { (other : FoundValue) → unwrap_or result other ≡ branch_at_head (S.encoding set.now) kinds.now code.now other }
+{
+    for kind in kinds {
+        if begins_branch(set, *kind, code) {
+            return Some(branch_of(set, *kind, code));
+        }
+    }
+    None
+}
+
+/// The branch at an offset of the code, of the first of some kinds that it is one of.
+pub fn find<S: WordSet>(set: &S, kinds: &[u32], code: &[u8], offset: usize) -> Option<Found>
+    requires { All (λ k. k < (S.encoding set.now).kinds) kinds.now }
+    ensures { (other : FoundValue) → unwrap_or result other ≡ branch_at_head (S.encoding set.now) kinds.now (drop offset code.now) other }
+{
+    branch_at_head(set, kinds, code_from(code, offset))
+}
