@@ -1,8 +1,9 @@
 -- The calls and answers of the code, as the definitions have them.
-use Rattle.std.specs.Prelude.{Bool, true, false}
+use Rattle.std.specs.Prelude.{Bool, true, false, Result}
 use Rattle.model.specs.Steps as model
-use Rattle.replay.specs.declared.calls.Answer.{Answer}
-use Rattle.replay.specs.declared.calls.Answer.TheVariants.{Granted, Number, Closed, YesNo, Refused}
+use Rattle.model.specs.declared.refusals.Refusal.{Refusal}
+use Rattle.replay.specs.declared.calls.Reply.{Reply}
+use Rattle.replay.specs.declared.calls.Reply.TheVariants.{Granted, Number, Closed, YesNo}
 use Rattle.replay.specs.declared.calls.Call.{Call}
 use Rattle.replay.specs.declared.calls.Call.TheVariants.{GetLabel, BindLabel, PutData, AlignTo, UseLabelAtOffset, AddUncondBranch, AddCondBranch, DeferTrap, RegisterConstant, GetLabelForConstant, OptimizeBranches, StartPatchable, EndPatchable, CurOffset, ResolveLabelOffset, IslandNeeded}
 
@@ -24,12 +25,14 @@ call_of CurOffset = model.CurOffset
 call_of (ResolveLabelOffset l) = model.ResolveLabelOffset l
 call_of (IslandNeeded distance) = model.IslandNeeded distance
 
-abbrev pub answer_of : Answer → model.Answer
-answer_of Granted = model.Granted
-answer_of (Number n) = model.Number n
-answer_of (Closed r) = model.Closed r
-answer_of (YesNo b) = model.YesNo b
-answer_of (Refused e) = model.Refused e
+abbrev pub reply_of : Reply → model.Answer
+reply_of Granted = model.Granted
+reply_of (Number n) = model.Number n
+reply_of (Closed r) = model.Closed r
+reply_of (YesNo b) = model.YesNo b
+
+abbrev pub answer_of : Result Reply Refusal → model.Answer
+answer_of a = model.answer_of reply_of a
 
 -- a call that opens and closes no region
 abbrev pub is_plain : Call → Bool

@@ -58,16 +58,18 @@ pub enum Call<'a> {
     },
 }
 
-/// What a call answered.
+/// What a granted call says.
 #[derive(Clone, Copy)]
-pub enum Answer {
-    /// granted, with nothing more to say
+pub enum Reply {
+    /// nothing more
     Granted,
-    /// granted, or a question's answer: a label, an offset, a number
+    /// a label, an offset, a number
     Number(u32),
-    /// granted: where the closed region lies
+    /// where the closed region lies
     Closed(Region),
-    /// a question's answer
+    /// yes or no, to a question
     YesNo(bool),
-    Refused(Refusal),
 }
+
+/// What a call answered.
+pub type Answer = Result<Reply, Refusal>;

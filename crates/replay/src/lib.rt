@@ -7,6 +7,8 @@
 
 pub mod calls;
 mod replay;
+mod session;
 
-pub use calls::{Answer, Call};
+pub use calls::{Answer, Call, Reply};
 pub use replay::{Counts, Replay, replay_calls};
+pub use session::Session;
