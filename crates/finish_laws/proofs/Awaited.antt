@@ -90,7 +90,7 @@ calls_keep_awaited i = record {
   simple = simplified_keeps rules_keep_awaited (λ s k. record { few = k.few; branches = tt; all_pending = k.all_pending }) false;
   data_put = λ s trap bytes k _ _. k;
   used = λ s l n bytes k _ _. k;
-  branched = λ s conditional l n bytes inverted k f _ _ _. record { few = k.few; branches = All-push LowBranch s.branches _ k.branches (record { start = omega (arith, f.room); end = f.room; target = omega (arith, f.exists, k.few) }); all_pending = k.all_pending };
+  branched = λ s l n bytes inverted k f _ _. record { few = k.few; branches = All-push LowBranch s.branches _ k.branches (record { start = omega (arith, f.room); end = f.room; target = omega (arith, f.exists, k.few) }); all_pending = k.all_pending };
   trap_deferred = λ s d k _ h. record { few = simp length-append (omega arith); branches = k.branches; all_pending = trap_pending s.labels s.deferred s.constants s.requested d k.all_pending };
   registered = λ s size align k _ _. record { few = k.few; branches = k.branches; all_pending = registered_pending s.labels s.deferred s.constants s.requested size align k.all_pending };
   requested = λ s n k f _ h. record { few = simp length-append (omega arith); branches = k.branches; all_pending = constant_pending s.labels s.deferred s.constants s.requested n _ k.few refl f.exists f.free k.all_pending };
