@@ -1,5 +1,5 @@
 -- Only opening and closing a region touch the regions.
-use Rattle.std.proofs.Common.{◌≡◌, ℕ, zero, suc, ◌+◌, Bool, true, false, cond, not, leb, List, length, Option, Result, refl, ◌∙◌, arith}
+use Rattle.std.proofs.Common.{◌≡◌, ℕ, zero, suc, ◌+◌, Bool, true, false, cond, not, leb, List, length, Some, None, Option, Result, refl, ◌∙◌, arith}
 use Rattle.std.proofs.lemmas.Bool.{false≢true}
 use Rattle.isa.specs.Isa.{Isa}
 use Rattle.isa.specs.Patches.{inversion}
@@ -37,8 +37,8 @@ simplified_keeps : (skip : Bool) (s : State) → regions_of (simplified skip s) 
 simplified_keeps true s = refl
 simplified_keeps false s = forgotten_keeps (all_rounds s).1 ∙ rounds_keep (length s.branches + bound_count s.labels) s
 
-branch_keeps : (i : Isa) (s : State) (suits conditional : Bool) (l k : ℕ) (bytes inverted : List ℕ) → regions_of (add_branch i s suits conditional l k bytes inverted).1 ≡ regions_of s
-branch_keeps i s suits conditional l k bytes inverted =
+branch_keeps : (i : Isa) (s : State) (suits : Bool) (l k : ℕ) (bytes : List ℕ) (inverted : Option (List ℕ)) → regions_of (add_branch i s suits l k bytes inverted).1 ≡ regions_of s
+branch_keeps i s suits l k bytes inverted =
     let P : Result ℕ Refusal × State → Type 0 = λ r. regions_of r.1 ≡ regions_of s in
     either P s.broken _ _ refl (either P (is_open s) _ _ refl (either P (no_label s l) _ _ refl (either P (leb i.kinds k) _ _ refl
     (either P (not suits) _ _ refl (either P (misaligned i s) _ _ refl (either P (fixups_full s) _ _ refl (either P (branches_full s) _ _ refl
@@ -50,8 +50,8 @@ keeps i s (BindLabel l skip) p = let k = simplified_keeps skip (bind s l) in gri
 keeps i s (PutData trap bytes) p = grind arith
 keeps i s (AlignTo n) p = grind arith
 keeps i s (UseLabelAtOffset l k bytes) p = grind arith
-keeps i s (AddUncondBranch l k bytes) p = branch_keeps i s (is_jump i k bytes.now) false l k bytes.now bytes.now
-keeps i s (AddCondBranch l k bytes inverted) p = branch_keeps i s (inversion i k bytes.now inverted.now) true l k bytes.now inverted.now
+keeps i s (AddUncondBranch l k bytes) p = branch_keeps i s (is_jump i k bytes.now) l k bytes.now None
+keeps i s (AddCondBranch l k bytes inverted) p = branch_keeps i s (inversion i k bytes.now inverted.now) l k bytes.now (Some inverted.now)
 keeps i s (DeferTrap trap) p = grind arith
 keeps i s (RegisterConstant size align) p = grind arith
 keeps i s (GetLabelForConstant n) p = grind arith
