@@ -1,5 +1,5 @@
 -- Where every label that is waited for is placed, each island shortens all chains of veneers, until nothing waits.
-use Rattle.std.proofs.Common.{◌≡◌, ℕ, zero, suc, ◌<◌, ◌≤◌, max, Bool, true, false, ◌⊎◌, List, [], ◌∷◌, ◌++◌, drop, is_some, sym, refl, ap, ◌∙◌, subst, inl, inr, append_assoc, append-nil, arith}
+use Rattle.std.proofs.Common.{◌≡◌, ℕ, zero, suc, ◌<◌, ◌≤◌, max, Bool, true, false, ◌⊎◌, List, [], ◌∷◌, ◌++◌, drop, is_some, sym, refl, ap, ◌∙◌, subst, inl, inr, append_assoc, append-nil, arith, Ok, Err, Result}
 use Rattle.std.specs.List.{AllByRecursion}
 use Rattle.std.proofs.ByRecursion.{All-push}
 use Rattle.std.proofs.lemmas.Bool.{both_ways, cases_lt, cond_both, or_left}
@@ -9,7 +9,8 @@ use Rattle.model.specs.declared.rows.Label.{Label}
 use Rattle.model.specs.declared.rows.Fixup.{Fixup}
 use Rattle.model.specs.declared.rows.DeferredTrap.{DeferredTrap}
 use Rattle.model.specs.declared.rows.Fate.{Fate}
-use Rattle.model.specs.declared.rows.Fate.TheVariants.{ToLabel, ToVeneer, Fails}
+use Rattle.model.specs.declared.refusals.Refusal.{Refusal}
+use Rattle.model.specs.declared.rows.Fate.TheVariants.{ToLabel, ToVeneer}
 use Rattle.model.specs.State.{State, with_branches}
 use Rattle.model.specs.Labels.{place_of}
 use Rattle.model.specs.Fates.{fate, own_fixup}
@@ -62,9 +63,9 @@ module _ (i : Isa) (lawful : Lawful i) (ls : List Label) (n : ℕ) where
       let v = lawful.veneer_bounds f.kind l.kind e in
       record { kind = v.own_kind; short = omega (arith, l.short, v.chain_falls); placed = l.placed }
 
-  handled_midway : (f : Fixup) (fs : List Fixup) (s : State) (x : Fate) → Supported i f x → Midway i ls n (f ∷ fs) s → Brings (Midway i ls n fs) (handled i x s (less_fresh s) f)
-  handled_midway f fs s (ToLabel place) e m = record { labels = m.labels; made = m.made; split = ap (λ (v : List Fixup). drop 1 v) m.split; low = m.low; todo = m.todo.1; held = m.held; no_traps = m.no_traps; no_constants = m.no_constants }
-  handled_midway f fs s (ToVeneer at) e m = record {
+  handled_midway : (f : Fixup) (fs : List Fixup) (s : State) (x : Result Fate Refusal) → Supported i f x → Midway i ls n (f ∷ fs) s → Brings (Midway i ls n fs) (handled i x s (less_fresh s) f)
+  handled_midway f fs s (Ok (ToLabel place)) e m = record { labels = m.labels; made = m.made; split = ap (λ (v : List Fixup). drop 1 v) m.split; low = m.low; todo = m.todo.1; held = m.held; no_traps = m.no_traps; no_constants = m.no_constants }
+  handled_midway f fs s (Ok (ToVeneer at)) e m = record {
     labels = m.labels;
     made = m.made ++ own_fixup i f at ∷ [];
     split = ap (λ (v : List Fixup). drop 1 v ++ own_fixup i f at ∷ []) m.split ∙ append_assoc fs m.made (own_fixup i f at ∷ []);
@@ -74,11 +75,11 @@ module _ (i : Isa) (lawful : Lawful i) (ls : List Label) (n : ℕ) where
     no_traps = m.no_traps;
     no_constants = m.no_constants;
   }
-  handled_midway f fs s (Fails x) e m = tt
+  handled_midway f fs s (Err x) e m = tt
 
-  handled_later : (f : Fixup) (fs : List Fixup) (s : State) (x : Fate) → Supported i f x → Later i ls n (f ∷ fs) s → Brings (Later i ls n fs) (handled i x s (less_held s) f)
-  handled_later f fs s (ToLabel place) e m = record { labels = m.labels; low = m.low; split = ap (λ (v : List Fixup). drop 1 v) m.split; todo = m.todo.1; no_traps = m.no_traps; no_constants = m.no_constants }
-  handled_later f fs s (ToVeneer at) e m = record {
+  handled_later : (f : Fixup) (fs : List Fixup) (s : State) (x : Result Fate Refusal) → Supported i f x → Later i ls n (f ∷ fs) s → Brings (Later i ls n fs) (handled i x s (less_held s) f)
+  handled_later f fs s (Ok (ToLabel place)) e m = record { labels = m.labels; low = m.low; split = ap (λ (v : List Fixup). drop 1 v) m.split; todo = m.todo.1; no_traps = m.no_traps; no_constants = m.no_constants }
+  handled_later f fs s (Ok (ToVeneer at)) e m = record {
     labels = m.labels;
     low = All-push (Low i ls n) s.fresh (own_fixup i f at) m.low (own_low at f e m.todo.0);
     split = ap (λ (v : List Fixup). drop 1 v) m.split;
@@ -86,7 +87,7 @@ module _ (i : Isa) (lawful : Lawful i) (ls : List Label) (n : ℕ) where
     no_traps = m.no_traps;
     no_constants = m.no_constants;
   }
-  handled_later f fs s (Fails x) e m = tt
+  handled_later f fs s (Err x) e m = tt
 
   module _ (force : Bool) (t : ℕ) where
     fresh_step_midway : (f : Fixup) (fs : List Fixup) (s : State) → Midway i ls n (f ∷ fs) s → Brings (Midway i ls n fs) (fresh_step i force t s f)

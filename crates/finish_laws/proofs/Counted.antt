@@ -1,11 +1,11 @@
 -- Islands within a bound are counted rightly, and where they come to an end, a larger bound changes nothing.
-use Rattle.std.proofs.Common.{◌≡◌, ℕ, zero, suc, ◌+◌, ◌≤◌, Bool, true, false, ltb, ◌⊎◌, List, [], ◌∷◌, length, Some, None, Option, sym, refl, ap, ◌∙◌, subst, inl, inr, arith}
+use Rattle.std.proofs.Common.{◌≡◌, ℕ, zero, suc, ◌+◌, ◌≤◌, Bool, true, false, ltb, ◌⊎◌, List, [], ◌∷◌, length, Some, None, Ok, Err, Option, Result, sym, refl, ap, ◌∙◌, subst, inl, inr, arith}
 use Rattle.std.proofs.lemmas.Bool.{cases_Bool, cond_both, cond-true, cond-false}
 use Rattle.isa.specs.Isa.{Isa}
 use Rattle.model.specs.declared.rows.Fixup.{Fixup}
 use Rattle.model.specs.declared.rows.DeferredTrap.{DeferredTrap}
 use Rattle.model.specs.declared.rows.Fate.{Fate}
-use Rattle.model.specs.declared.rows.Fate.TheVariants.{ToLabel, ToVeneer, Fails}
+use Rattle.model.specs.declared.rows.Fate.TheVariants.{ToLabel, ToVeneer}
 use Rattle.model.specs.declared.refusals.Refusal.{Refusal}
 use Rattle.model.specs.Capacities.{max_code}
 use Rattle.model.specs.State.{State, cur_offset, with_branches}
@@ -26,10 +26,10 @@ go_on_uncounted : (o : Option Refusal) (p : Progress) (next : State → Progress
 go_on_uncounted None p next h f = record { none_yet = omega (arith, h.none_yet, (f p.state).none_yet) }
 go_on_uncounted (Some e) p next h f = h
 
-handled_uncounted : (i : Isa) (x : Fate) (s r : State) (f : Fixup) → Uncounted (handled i x s r f)
-handled_uncounted i (ToLabel place) s r f = record { none_yet = refl }
-handled_uncounted i (ToVeneer at) s r f = record { none_yet = refl }
-handled_uncounted i (Fails e) s r f = record { none_yet = refl }
+handled_uncounted : (i : Isa) (x : Result Fate Refusal) (s r : State) (f : Fixup) → Uncounted (handled i x s r f)
+handled_uncounted i (Ok (ToLabel place)) s r f = record { none_yet = refl }
+handled_uncounted i (Ok (ToVeneer at)) s r f = record { none_yet = refl }
+handled_uncounted i (Err e) s r f = record { none_yet = refl }
 
 module _ (i : Isa) (force : Bool) (t : ℕ) where
   fresh_uncounted : (fs : List Fixup) (s : State) → Uncounted (fresh_pass i force t fs s)

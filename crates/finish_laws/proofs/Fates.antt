@@ -1,10 +1,11 @@
 -- What an island does with a fixup.
-use Rattle.std.proofs.Common.{◌≡◌, ℕ, ◌+◌, ◌-◌, Bool, true, not, ◌&&◌, ltb, leb, length, Some, None, Option}
+use Rattle.std.proofs.Common.{◌≡◌, ℕ, ◌+◌, ◌-◌, Bool, true, not, ◌&&◌, ltb, leb, length, Some, None, Option, Ok, Err, Result}
 use Rattle.std.proofs.lemmas.Bool.{cond_both, not-false}
 use Rattle.isa.specs.Isa.{Isa}
 use Rattle.model.specs.declared.rows.Fixup.{Fixup}
 use Rattle.model.specs.declared.rows.Fate.{Fate}
-use Rattle.model.specs.declared.rows.Fate.TheVariants.{ToLabel, ToVeneer, Fails}
+use Rattle.model.specs.declared.refusals.Refusal.{Refusal}
+use Rattle.model.specs.declared.rows.Fate.TheVariants.{ToLabel, ToVeneer}
 use Rattle.model.specs.Capacities.{max_code}
 use Rattle.model.specs.State.{State, cur_offset}
 use Rattle.model.specs.Code.{aligned}
@@ -12,10 +13,10 @@ use Rattle.model.specs.Labels.{place_of}
 use Rattle.model.specs.Fates.{veneer_at, fate_at, fate}
 
 -- a fixup is led to a veneer only where its kind has one
-abbrev pub Supported : Isa → Fixup → Fate → Type 0
-Supported i f (ToLabel place) = Unit {0}
-Supported i f (ToVeneer at) = i.supports f.kind ≡ true
-Supported i f (Fails e) = Unit {0}
+abbrev pub Supported : Isa → Fixup → Result Fate Refusal → Type 0
+Supported i f (Ok (ToLabel place)) = Unit {0}
+Supported i f (Ok (ToVeneer at)) = i.supports f.kind ≡ true
+Supported i f (Err e) = Unit {0}
 
 veneer_at_supported : (i : Isa) (end : ℕ) (f : Fixup) → Supported i f (veneer_at i end f)
 veneer_at_supported i end f =

@@ -1,5 +1,5 @@
 -- The first island: traps and constants are written, labels keep their aliases, and what waits is for the same labels.
-use Rattle.std.proofs.Common.{◌≡◌, ℕ, zero, suc, ◌+◌, Bool, true, ltb, List, [], ◌∷◌, length, drop, Some, None, Option, unwrap_or, option_map, refl, ap, ◌∙◌, length-set}
+use Rattle.std.proofs.Common.{◌≡◌, ℕ, zero, suc, ◌+◌, Bool, true, ltb, List, [], ◌∷◌, length, drop, Some, None, Option, unwrap_or, option_map, refl, ap, ◌∙◌, length-set, Ok, Err, Result}
 use Rattle.std.specs.List.{AllByRecursion}
 use Rattle.std.proofs.ByRecursion.{All-drop, All-push}
 use Rattle.isa.specs.Isa.{Isa}
@@ -7,7 +7,8 @@ use Rattle.model.specs.declared.rows.Label.{Label}
 use Rattle.model.specs.declared.rows.Fixup.{Fixup}
 use Rattle.model.specs.declared.rows.DeferredTrap.{DeferredTrap}
 use Rattle.model.specs.declared.rows.Fate.{Fate}
-use Rattle.model.specs.declared.rows.Fate.TheVariants.{ToLabel, ToVeneer, Fails}
+use Rattle.model.specs.declared.refusals.Refusal.{Refusal}
+use Rattle.model.specs.declared.rows.Fate.TheVariants.{ToLabel, ToVeneer}
 use Rattle.model.specs.Capacities.{max_code}
 use Rattle.model.specs.State.{State, cur_offset, with_branches}
 use Rattle.model.specs.Code.{aligned}
@@ -66,10 +67,10 @@ module _ (i : Isa) (Q : Fixup → Type 0) (owns : (f : Fixup) (at : ℕ) → i.s
     no_traps : s.deferred ≡ []
     left : s.requested ≡ ns
 
-  handled_midst : (x : Fate) (s r : State) (f : Fixup) → Supported i f x → Q f → Midst r → Brings Midst (handled i x s r f)
-  handled_midst (ToLabel place) s r f e q m = record { fresh = m.fresh; held = m.held; labels = m.labels }
-  handled_midst (ToVeneer at) s r f e q m = record { fresh = All-push Q r.fresh (own_fixup i f at) m.fresh (owns f at e q); held = m.held; labels = m.labels }
-  handled_midst (Fails x) s r f e q m = tt
+  handled_midst : (x : Result Fate Refusal) (s r : State) (f : Fixup) → Supported i f x → Q f → Midst r → Brings Midst (handled i x s r f)
+  handled_midst (Ok (ToLabel place)) s r f e q m = record { fresh = m.fresh; held = m.held; labels = m.labels }
+  handled_midst (Ok (ToVeneer at)) s r f e q m = record { fresh = All-push Q r.fresh (own_fixup i f at) m.fresh (owns f at e q); held = m.held; labels = m.labels }
+  handled_midst (Err x) s r f e q m = tt
 
   all_insert : (f : Fixup) (gs : List Fixup) → Q f → AllByRecursion Q gs → AllByRecursion Q (insert_held f gs)
   all_insert f [] q a = (q, tt)

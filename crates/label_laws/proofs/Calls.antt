@@ -126,11 +126,11 @@ use_gives i s x l k bytes exists t = record { holds = use_goes i s l k bytes exi
 use_label_gives : (i : Isa) (s : State) (l k : ℕ) (bytes : List ℕ) → Sound s → Gives s (use_label_at_offset i s l k bytes)
 use_label_gives i s l k bytes t = search (unless, gives_if, use_gives) depth 12
 
-branch_gives : {X : Type 0} (i : Isa) (s : State) (x : X) (conditional : Bool) (l k : ℕ) (bytes inverted : List ℕ) → no_label s l ≡ false → no_room s (length bytes) ≡ false → Sound s → Gives s (x, append_branch i s conditional l k bytes inverted)
-branch_gives i s x conditional l k bytes inverted exists room t =
+branch_gives : {X : Type 0} (i : Isa) (s : State) (x : X) (l k : ℕ) (bytes : List ℕ) (inverted : Option (List ℕ)) → no_label s l ≡ false → no_room s (length bytes) ≡ false → Sound s → Gives s (x, append_branch i s l k bytes inverted)
+branch_gives i s x l k bytes inverted exists room t =
     let u = (use_goes i s l k bytes exists t).sound in
     record {
-      holds = goes_beside s (append_branch i s conditional l k bytes inverted) t (record {
+      holds = goes_beside s (append_branch i s l k bytes inverted) t (record {
         labels = u.labels;
         branches = All-push (BranchAmong (length s.labels)) s.branches _ t.branches (record { forward = omega arith; room = ltb-false _ _ room; target = leb-false _ _ exists });
         fresh = u.fresh;
@@ -140,8 +140,8 @@ branch_gives i s x conditional l k bytes inverted exists room t =
       }) refl;
     }
 
-add_branch_gives : (i : Isa) (s : State) (suits conditional : Bool) (l k : ℕ) (bytes inverted : List ℕ) → Sound s → Gives s (add_branch i s suits conditional l k bytes inverted)
-add_branch_gives i s suits conditional l k bytes inverted t = search (unless, gives_if, branch_gives) depth 14
+add_branch_gives : (i : Isa) (s : State) (suits : Bool) (l k : ℕ) (bytes : List ℕ) (inverted : Option (List ℕ)) → Sound s → Gives s (add_branch i s suits l k bytes inverted)
+add_branch_gives i s suits l k bytes inverted t = search (unless, gives_if, branch_gives) depth 14
 
 -- islands and finishing
 ended_gives : (s : State) (p : Progress) (o : Option Refusal) → Gets s p → Gives s (ended o p.state)
@@ -169,8 +169,8 @@ step_goes i s (BindLabel l skip) k = (bind_label_gives i s l skip k).holds
 step_goes i s (PutData trap bytes) k = (put_data_gives s trap bytes k).holds
 step_goes i s (AlignTo n) k = (align_to_gives s n k).holds
 step_goes i s (UseLabelAtOffset l j bytes) k = (use_label_gives i s l j bytes k).holds
-step_goes i s (AddUncondBranch l j bytes) k = (add_branch_gives i s (is_jump i j bytes) false l j bytes bytes k).holds
-step_goes i s (AddCondBranch l j bytes inverted) k = (add_branch_gives i s (inversion i j bytes inverted) true l j bytes inverted k).holds
+step_goes i s (AddUncondBranch l j bytes) k = (add_branch_gives i s (is_jump i j bytes) l j bytes None k).holds
+step_goes i s (AddCondBranch l j bytes inverted) k = (add_branch_gives i s (inversion i j bytes inverted) l j bytes (Some inverted) k).holds
 step_goes i s (DeferTrap trap) k = (defer_trap_gives s trap k).holds
 step_goes i s (RegisterConstant size align) k = (register_constant_gives i s size align k).holds
 step_goes i s (GetLabelForConstant n) k = (get_label_for_constant_gives s n k).holds

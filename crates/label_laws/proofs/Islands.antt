@@ -1,12 +1,12 @@
 -- Islands and finishing keep the tables sound, and no label goes forward.
-use Rattle.std.proofs.Common.{◌≡◌, ℕ, zero, suc, ◌+◌, Bool, ltb, List, [], ◌∷◌, length, drop, Some, None, Option, refl, ap}
+use Rattle.std.proofs.Common.{◌≡◌, ℕ, zero, suc, ◌+◌, Bool, ltb, List, [], ◌∷◌, length, drop, Some, None, Ok, Err, Option, Result, refl, ap}
 use Rattle.std.specs.List.{AllByRecursion}
 use Rattle.std.proofs.ByRecursion.{All-drop, All-push}
 use Rattle.isa.specs.Isa.{Isa}
 use Rattle.model.specs.declared.rows.Fixup.{Fixup}
 use Rattle.model.specs.declared.rows.DeferredTrap.{DeferredTrap}
 use Rattle.model.specs.declared.rows.Fate.{Fate}
-use Rattle.model.specs.declared.rows.Fate.TheVariants.{ToLabel, ToVeneer, Fails}
+use Rattle.model.specs.declared.rows.Fate.TheVariants.{ToLabel, ToVeneer}
 use Rattle.model.specs.declared.refusals.Refusal.{Refusal}
 use Rattle.model.specs.declared.refusals.Refusal.TheVariants.{CodeFull}
 use Rattle.model.specs.Capacities.{max_code}
@@ -35,9 +35,9 @@ go_on_gets : (o : Option Refusal) (s : State) (p : Progress) (next : State → P
 go_on_gets None s p next f g = record { holds = goes_on s p.state _ f.holds g.holds }
 go_on_gets (Some e) s p next f g = f
 
-handled_gets : (i : Isa) (x : Fate) (s r : State) (f : Fixup) → Sound s → Goes s r → UseAmong (length r.labels) f → Gets s (handled i x s r f)
-handled_gets i (ToLabel place) s r f k g u = record { holds = record { sound = g.sound; later = g.later } }
-handled_gets i (ToVeneer at) s r f k g u =
+handled_gets : (i : Isa) (x : Result Fate Refusal) (s r : State) (f : Fixup) → Sound s → Goes s r → UseAmong (length r.labels) f → Gets s (handled i x s r f)
+handled_gets i (Ok (ToLabel place)) s r f k g u = record { holds = record { sound = g.sound; later = g.later } }
+handled_gets i (Ok (ToVeneer at)) s r f k g u =
     let t = g.sound in
     record {
       holds = record {
@@ -45,7 +45,7 @@ handled_gets i (ToVeneer at) s r f k g u =
         later = g.later;
       };
     }
-handled_gets i (Fails e) s r f k g u = record { holds = goes_same s k }
+handled_gets i (Err e) s r f k g u = record { holds = goes_same s k }
 
 less_fresh_goes : (s : State) → Sound s → Goes s (less_fresh s)
 less_fresh_goes s k = goes_beside s (less_fresh s) k (record { labels = k.labels; branches = k.branches; fresh = All-drop (UseAmong (length s.labels)) 1 s.fresh k.fresh; held = k.held; waits = k.waits; apart = k.apart }) refl

@@ -9,7 +9,7 @@ use Rattle.model.specs.declared.rows.Label.{Label}
 use Rattle.model.specs.declared.rows.Branch.{Branch}
 use Rattle.model.specs.State.{State, unknown, cur_offset, with_branches}
 use Rattle.model.specs.Labels.{unbound, moved, aliased}
-use Rattle.model.specs.Simplify.{no_branch, last_branch, target_of, has_labels, cut, redirect, turned, turn, Round, stop, applied, rule_1, rule_2, rule_3, rule_4, takes_branch, round, rounds, all_rounds, forgotten, simplified}
+use Rattle.model.specs.Simplify.{is_conditional, no_branch, last_branch, target_of, has_labels, cut, redirect, turned, turn, Round, stop, applied, rule_1, rule_2, rule_3, rule_4, takes_branch, round, rounds, all_rounds, forgotten, simplified}
 use Rattle.model.proofs.Cases.{either}
 use Rattle.label_laws.specs.Sound.{BranchAmong, UseAmong, Waits, Sound, Goes}
 use Rattle.label_laws.proofs.Edits.{Keeps}
@@ -108,8 +108,8 @@ last_rules_go s t k = search (either (OneRound s), cut-round, turned_round, stop
 rules_go : (s : State) → Taken s → Sound s → OneRound s (rule_1 s (rule_2 s (rule_3 s (rule_4 s (stop s)))))
 rules_go s t k =
     either (OneRound s) (eqb (target_of s (last_branch s)) (cur_offset s)) _ _ (cut-round s t k)
-    (cond_both ((last_branch s).conditional || eqb (target_of s (last_branch s)) (last_branch s).start) _ _ (OneRound s) (λ e. stop-round s k)
-    (λ e. either (OneRound s) (has_labels s) _ _ (record { holds = redirect_goes s t (eqb-false _ _ (or_parts (last_branch s).conditional _ e).1) k }) (last_rules_go s t k)))
+    (cond_both (is_conditional (last_branch s) || eqb (target_of s (last_branch s)) (last_branch s).start) _ _ (OneRound s) (λ e. stop-round s k)
+    (λ e. either (OneRound s) (has_labels s) _ _ (record { holds = redirect_goes s t (eqb-false _ _ (or_parts (is_conditional (last_branch s)) _ e).1) k }) (last_rules_go s t k)))
 
 round_goes : (s : State) → Sound s → OneRound s (round s)
 round_goes s k = cond_both (takes_branch s) _ _ (OneRound s) (λ e. rules_go s (taken s e) k) (λ e. stop-round s k)
