@@ -1,5 +1,5 @@
 -- After every list of calls, a reserved label that stands nowhere and is no alias is pending.
-use Rattle.std.proofs.Common.{◌≡◌, ℕ, ◌<◌, Bool, false, ◌||◌, List, is_some, refl, arith}
+use Rattle.std.proofs.Common.{◌≡◌, ℕ, Bool, false, ◌||◌, List, is_some, refl, arith}
 use Rattle.std.proofs.lemmas.Bool.{or_parts}
 use Rattle.isa.specs.Isa.{Isa}
 use Rattle.model.specs.State.{State, empty, cur_offset}

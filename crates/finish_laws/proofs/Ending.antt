@@ -1,5 +1,5 @@
 -- Finishing ends: the first island places every label that is waited for, and then chains fall.
-use Rattle.std.proofs.Common.{◌≡◌, ℕ, suc, ◌+◌, ◌<◌, Bool, true, false, not, ◌≢◌, ◌⊎◌, List, [], length, is_some, Some, None, is_none, sym, refl, ap, ◌∙◌, subst, inl, inr, arith}
+use Rattle.std.proofs.Common.{◌≡◌, ℕ, suc, ◌+◌, ◌<◌, Bool, true, false, not, ◌≢◌, ◌⊎◌, List, [], length, is_some, None, is_none, sym, refl, ◌∙◌, subst, inl, inr, arith}
 use Rattle.std.specs.List.{AllByRecursion}
 use Rattle.std.proofs.ByRecursion.{All-weaker}
 use Rattle.std.proofs.lemmas.Bool.{and_cases, cond_both, not-false}

@@ -1,5 +1,5 @@
 -- From the tables before an island to those within it, step by step.
-use Rattle.std.proofs.Common.{◌≡◌, ℕ, ◌+◌, ◌<◌, ◌≤◌, true, ◌⊎◌, List, length, get_or, take, drop, Some, sym, ap, ◌∙◌, inl, inr, arith}
+use Rattle.std.proofs.Common.{◌≡◌, ℕ, ◌+◌, ◌<◌, ◌≤◌, ◌⊎◌, List, length, get_or, take, drop, Some, sym, ap, ◌∙◌, inl, inr, arith}
 use lib.IntN.{sub_ℕ}
 use Rattle.std.proofs.lemmas.List.{get_or-take, get_or-drop}
 use Rattle.isa.specs.Isa.{Isa}

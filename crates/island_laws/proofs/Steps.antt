@@ -1,5 +1,5 @@
 -- The steps of an island: one use is patched, to its label or to a new veneer, or code comes behind the code.
-use Rattle.std.proofs.Common.{◌≡◌, ℕ, ◌+◌, ◌-◌, ◌≤◌, ◌⊎◌, List, [], ◌∷◌, ◌++◌, length, take, drop, Some, sym, refl, ap, ◌∙◌, subst, inl, inr, ⊎_elim, append_assoc, append-nil, arith, length-append}
+use Rattle.std.proofs.Common.{◌≡◌, ℕ, ◌+◌, ◌-◌, ◌≤◌, ◌⊎◌, List, [], ◌∷◌, ◌++◌, length, take, drop, sym, refl, ap, ◌∙◌, subst, inl, inr, ⊎_elim, append_assoc, append-nil, arith, length-append}
 use lib.IntN.{sub_ℕ}
 use Rattle.std.specs.List.{ContainsAt, AllByRecursion}
 use Rattle.std.proofs.lemmas.List.{take_all, drop_at}
@@ -9,7 +9,7 @@ use Rattle.isa.specs.Laws.{Lawful}
 use Rattle.model.specs.declared.rows.Fixup.{Fixup}
 use Rattle.model.specs.State.{State, cur_offset}
 use Rattle.model.specs.Code.{zeros, padded_to}
-use Rattle.model.specs.Labels.{root, offset_of}
+use Rattle.model.specs.Labels.{root}
 use Rattle.model.specs.Fates.{patch_fixup, own_fixup}
 use Rattle.model.specs.Uses.{InPlace, EndsBefore, Apart, Uses}
 use Rattle.model.proofs.Passes.{Near, Veneered}
@@ -17,7 +17,7 @@ use Rattle.model.proofs.Multiples.{aligned_multiple, some_alignment}
 use Rattle.model.proofs.Uses.{part_of_more, patchable}
 use Rattle.model.proofs.Orderly.{LabelWhole, Orderly, resolved_whole}
 use Rattle.island_laws.specs.Waiting.{Waits, use_bytes, VeneerAt}
-use Rattle.island_laws.proofs.Since.{Written, ByLabel, ByVeneer, NewOwn, Step}
+use Rattle.island_laws.proofs.Since.{ByLabel, ByVeneer, NewOwn, Step}
 use Rattle.island_laws.proofs.Members.{has_later, has_cases}
 use Rattle.island_laws.proofs.Patches.{padded_long, patch_long, patch_same, patch_written}
 

@@ -1,6 +1,6 @@
 -- Every call keeps the tables sound, and no label goes forward.
 use Rattle.std.proofs.Common.{◌≡◌, ℕ, ◌+◌, ◌<◌, Bool, true, false, cond, ◌||◌, leb, List, [], ◌∷◌, ◌++◌, length, is_some, Some, None, Option, refl, arith}
-use Rattle.std.proofs.lemmas.Bool.{leb-false, ltb-false, or_parts, not-false, eqb-true, cond_both}
+use Rattle.std.proofs.lemmas.Bool.{leb-false, ltb-false, or_parts, cond_both}
 use Rattle.std.proofs.ByRecursion.{All-push}
 use Rattle.isa.specs.Isa.{Isa}
 use Rattle.isa.specs.Patches.{inversion}

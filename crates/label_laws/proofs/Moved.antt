@@ -1,9 +1,9 @@
 -- Labels move from one offset to a lower one.
-use Rattle.std.proofs.Common.{◌≡◌, ℕ, ◌≤◌, false, ◌≢◌, ◌⊎◌, List, map, length, Some, None, sym, refl, ap, ◌∙◌, subst, inl, inr, arith}
+use Rattle.std.proofs.Common.{◌≡◌, ℕ, ◌≤◌, ◌≢◌, ◌⊎◌, List, map, length, Some, sym, refl, ap, subst, inl, inr, arith}
 use lib.ListN.{length-map}
 use Rattle.std.proofs.ByRecursion.{All-map, All-weaker}
 use Rattle.model.specs.declared.rows.Label.{Label}
-use Rattle.model.specs.Labels.{unbound, label_row, moved}
+use Rattle.model.specs.Labels.{label_row, moved}
 use Rattle.model.proofs.Labels.{eq-is_at, ne_is_at, cases_at, some-known}
 use Rattle.label_laws.specs.Moves.{Moves}
 use Rattle.label_laws.specs.Sound.{Row, Orderly}

@@ -1,10 +1,10 @@
 -- Labels at an offset become aliases of a label that does not resolve to it.
-use Rattle.std.proofs.Common.{◌≡◌, ℕ, ◌<◌, false, ◌≢◌, ◌⊎◌, List, map, length, Some, None, sym, refl, ap, ◌∙◌, subst, inl, inr, arith}
+use Rattle.std.proofs.Common.{◌≡◌, ℕ, ◌<◌, ◌≢◌, ◌⊎◌, List, map, length, Some, None, sym, refl, ap, ◌∙◌, subst, inl, inr, arith}
 use lib.ListN.{length-map}
 use Rattle.std.proofs.lemmas.Option.{none-some}
 use Rattle.std.proofs.ByRecursion.{All-map, All-weaker}
 use Rattle.model.specs.declared.rows.Label.{Label}
-use Rattle.model.specs.Labels.{unbound, label_row, aliased, root}
+use Rattle.model.specs.Labels.{label_row, aliased, root}
 use Rattle.model.proofs.Labels.{eq-is_at, ne_is_at, cases_at, some-known}
 use Rattle.label_laws.specs.Leads.{Leads, here, on}
 use Rattle.label_laws.specs.Moves.{Moves}

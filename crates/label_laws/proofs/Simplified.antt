@@ -1,5 +1,5 @@
 -- Simplifying keeps the tables sound, and no label goes forward.
-use Rattle.std.proofs.Common.{◌≡◌, ℕ, zero, suc, ◌-◌, ◌<◌, ◌≤◌, Bool, true, false, ◌&&◌, ◌||◌, eqb, ltb, ◌≢◌, ◌⊎◌, List, [], map, length, get_or, Option, unwrap_or, sym, refl, ap, ◌∙◌, inl, inr, arith}
+use Rattle.std.proofs.Common.{◌≡◌, ℕ, zero, suc, ◌-◌, ◌<◌, ◌≤◌, Bool, true, false, ◌&&◌, ◌||◌, eqb, ltb, ◌≢◌, ◌⊎◌, List, [], map, length, get_or, Option, unwrap_or, refl, ap, ◌∙◌, inl, inr, arith}
 use lib.ListN.{length-map}
 use Rattle.std.specs.List.{AllByRecursion}
 use Rattle.std.proofs.lemmas.Bool.{cases_lt, cond_both, and_parts, or_parts, ltb-true, eqb-true, eqb-false}
@@ -8,7 +8,7 @@ use Rattle.std.proofs.ByRecursion.{All-get_or, All-take, All-set}
 use Rattle.model.specs.declared.rows.Label.{Label}
 use Rattle.model.specs.declared.rows.Branch.{Branch}
 use Rattle.model.specs.State.{State, unknown, cur_offset, with_branches}
-use Rattle.model.specs.Labels.{unbound, moved, aliased}
+use Rattle.model.specs.Labels.{moved, aliased}
 use Rattle.model.specs.Simplify.{is_conditional, no_branch, last_branch, target_of, has_labels, cut, redirect, turned, turn, Round, stop, applied, rule_1, rule_2, rule_3, rule_4, takes_branch, round, rounds, all_rounds, forgotten, simplified}
 use Rattle.model.proofs.Cases.{either}
 use Rattle.label_laws.specs.Sound.{BranchAmong, UseAmong, Waits, Sound, Goes}

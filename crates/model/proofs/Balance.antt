@@ -5,8 +5,8 @@ use Rattle.isa.specs.Patches.{inversion}
 use Rattle.model.specs.declared.refusals.Refusal.{Refusal}
 use Rattle.model.specs.State.{State}
 use Rattle.model.specs.Fixups.{waiting}
-use Rattle.model.specs.Simplify.{simplified, cuts}
 use Rattle.model.specs.Constants.{constant_row}
+use Rattle.model.specs.Simplify.{simplified, cuts}
 use Rattle.model.specs.Calls.{bind, append_use, append_branch, is_jump, get_label, bind_label, put_data, align_to, use_label_at_offset, add_branch, defer_trap, register_constant, request, get_label_for_constant, optimize_branches, start_patchable, close}
 use Rattle.model.specs.Progress.{Progress}
 use Rattle.model.specs.Islands.{island, ended, emit_island}

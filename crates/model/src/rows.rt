@@ -1,6 +1,6 @@
 // The rows of a buffer's tables.
 ghost use Rattle.std.specs.Prelude.{◌≡◌};
-ghost use Rattle.model.specs.Labels.{unbound, moved, aliased};
+ghost use Rattle.model.specs.Labels.{unbound};
 ghost use Rattle.model.specs.Simplify.{is_conditional, turned};
 
 /// Where a label is that stands nowhere, and the cap of deadlines.
@@ -26,35 +26,6 @@ impl Label {
             offset: None,
             alias: None,
             reserved,
-        }
-    }
-
-    /// The label, moved if it stands at an offset to another.
-    pub fn moved(self, from: u32, to: u32) -> Label
-        ensures { result ≡ moved from to self }
-    {
-        if self.offset == Some(from) {
-            Label {
-                offset: Some(to),
-                ..self
-            }
-        } else {
-            self
-        }
-    }
-
-    /// The label, if it stands at an offset no longer there, but an alias of another.
-    pub fn aliased(self, from: u32, target: u32) -> Label
-        ensures { result ≡ aliased from target self }
-    {
-        if self.offset == Some(from) {
-            Label {
-                offset: None,
-                alias: Some(target),
-                ..self
-            }
-        } else {
-            self
         }
     }
 }

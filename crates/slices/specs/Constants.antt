@@ -1,6 +1,6 @@
 -- The rows of constants.
-use Rattle.model.specs.declared.rows.Constant.{Constant}
 use Rattle.std.specs.Prelude.{None}
+use Rattle.model.specs.declared.rows.Constant.{Constant}
 
 -- what stands for a constant where there is none
 abbrev pub no_constant : Constant

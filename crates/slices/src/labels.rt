@@ -1,5 +1,6 @@
 // Functions over the table of labels.
 ghost use Rattle.std.specs.Prelude.{◌≡◌, map};
+ghost use Rattle.model.specs.declared.rows.Label.{Label};
 ghost use Rattle.model.specs.Labels.{label_row, root, offset_of, moved, aliased, standing};
 
 use model::rows::{Label, UNKNOWN};
@@ -37,22 +38,49 @@ pub fn resolve(labels: &[Label], label: u32) -> u32
         .unwrap_or(UNKNOWN)
 }
 
+// Edits each row.
+fn edit_rows<F: Fn(Label) -> Label>(labels: &mut [Label], edit: F)
+    ghost into: { Label → Label }
+    requires callable { F.IsAlwaysCallable edit }
+    requires edits { (x y : Label) → F.post edit x y → y ≡ into x }
+    ensures { labels.new ≡ map into labels.old }
+{
+    for row in labels.iter_mut() {
+        *row = edit(*row);
+    }
+}
+
 /// Moves each label that stands at one offset to another.
 pub fn move_labels(labels: &mut [Label], from: u32, to: u32)
     ensures { labels.new ≡ map (moved from to) labels.old }
 {
-    for row in labels.iter_mut() {
-        *row = row.moved(from, to);
-    }
+    edit_rows(labels, |row| {
+        if row.offset == Some(from) {
+            Label {
+                offset: Some(to),
+                ..row
+            }
+        } else {
+            row
+        }
+    });
 }
 
 /// Each label that stands at an offset becomes an alias of another label.
-pub fn alias_labels(labels: &mut [Label], from: u32, target: u32)
-    ensures { labels.new ≡ map (aliased from target) labels.old }
+pub fn alias_labels(labels: &mut [Label], at: u32, target: u32)
+    ensures { labels.new ≡ map (aliased at target) labels.old }
 {
-    for row in labels.iter_mut() {
-        *row = row.aliased(from, target);
-    }
+    edit_rows(labels, |row| {
+        if row.offset == Some(at) {
+            Label {
+                offset: None,
+                alias: Some(target),
+                ..row
+            }
+        } else {
+            row
+        }
+    });
 }
 
 /// How many labels stand at an offset.

@@ -4,7 +4,7 @@ ghost use Rattle.model.specs.Calls.{defer_trap, get_label_for_constant};
 ghost use Rattle.tables.specs.View.{view};
 
 use model::Refusal;
-use model::rows::{Constant, DeferredTrap, UNKNOWN};
+use model::rows::{Constant, DeferredTrap};
 use tables::capacities::{MAX_LABELS, MAX_REQUESTS, MAX_TRAPS};
 use tables::tables::Tables;
 
@@ -45,8 +45,8 @@ pub fn get_label_for_constant(tables: &mut Tables, number: u32) -> Result<u32, R
         return Err(Refusal::NoSuchConstant);
     }
     let constant = tables.constants.rows[n];
-    if constant.label != UNKNOWN {
-        return Ok(constant.label);
+    if let Some(label) = constant.label {
+        return Ok(label);
     }
     if tables.requested.rows.len() + tables.placed.rows.len() >= MAX_REQUESTS {
         return Err(Refusal::ConstantsFull);
@@ -57,7 +57,7 @@ pub fn get_label_for_constant(tables: &mut Tables, number: u32) -> Result<u32, R
     }
     tables.push_label(true);
     tables.constants.rows[n] = Constant {
-        label: label as u32,
+        label: Some(label as u32),
         ..constant
     };
     tables.requested.rows.push_reserved(number);

@@ -39,11 +39,7 @@ impl Tables {
         requires { vec_len self.old.labels.rows < 4096 }
         ensures { view self.new ≡ add_label (view self.old) reserved }
     {
-        self.labels.rows.push_reserved(Label {
-            offset: UNKNOWN,
-            alias: UNKNOWN,
-            reserved,
-        });
+        self.labels.rows.push_reserved(Label::unbound(reserved));
     }
 
     /// Binds a label at the current offset.
@@ -51,7 +47,7 @@ impl Tables {
         requires { label < vec_len self.old.labels.rows }
         ensures { view self.new ≡ bind (view self.old) label }
     {
-        self.labels.rows[label as usize].offset = self.code.rows.len() as u32;
+        self.labels.rows[label as usize].offset = Some(self.code.rows.len() as u32);
     }
 
     /// Moves each label that stands at one offset to another.

@@ -1,4 +1,4 @@
-use Rattle.std.proofs.Common.{◌≡◌, ℕ, suc, ◌+◌, ◌-◌, ◌<◌, List, Some, Option, unwrap_or, option_map, length, ap, ◌∙◌, arith, rules, sym}
+use Rattle.std.proofs.Common.{◌≡◌, ℕ, suc, ◌+◌, ◌-◌, ◌<◌, List, Some, Option, unwrap_or, option_map, ap, ◌∙◌, arith, rules, sym}
 use Rattle.model.specs.declared.rows.Label.{Label}
 use Rattle.model.specs.Labels.{label_row, root_within}
 use Rattle.slices.proofs.labels.root_of.Goals as goal

@@ -1,7 +1,0 @@
-use Rattle.std.proofs.Common.{rules}
-use Rattle.std.proofs.lemmas.List.Edits.{map_over_more}
-use Rattle.model.specs.Labels.{moved}
-use Rattle.slices.proofs.labels.move_labels.Goals as goal
-
-pub loop-row-preserved : goal.loop-row-preserved
-loop-row-preserved c = search (rules, map_over_more (moved c.args.from c.args.to))
