@@ -2,7 +2,8 @@
 use Rattle.std.specs.Prelude.{◌≡◌, ℕ, ◌<◌, Bool, true, false, not, T, List, ◌==◌, ◌≢◌, nat_eq, refl}
 use Rattle.std.proofs.Common.{sym, ap, ◌∙◌, inl, inr, arith, lit<}
 use Rattle.std.proofs.lemmas.Bool.{eqb-true, and_parts, cases_Bool, cond-false, false≢true}
-use Rattle.bits.specs.Fields.{Piece, get, put, flip, piece, scatter}
+use Rattle.bits.specs.declared.pieces.Piece.{Piece}
+use Rattle.bits.specs.Fields.{get, put, flip, piece, scatter}
 use Rattle.bits.specs.Words.{word, to_bytes}
 use Rattle.bits.proofs.LittleEndian.{word_fits, word-to_bytes}
 use Rattle.bits.proofs.OneField.{put-fits}

@@ -2,7 +2,8 @@
 use Rattle.std.specs.Prelude.{◌≡◌, ℕ, zero, suc, ◌<◌, true, cond, List, [], ◌∷◌, ◌==◌, refl}
 use Rattle.std.proofs.Common.{sym, ap, ◌∙◌, inl, inr, arith, lit≤}
 use Rattle.std.proofs.lemmas.Bool.{eqb-true, ne_eqb, and_parts, cases_Bool, false≢true}
-use Rattle.bits.specs.Fields.{Piece, get, piece}
+use Rattle.bits.specs.declared.pieces.Piece.{Piece}
+use Rattle.bits.specs.Fields.{get, piece}
 use Rattle.bits.specs.Words.{word}
 use Rattle.bits.proofs.FormatLaws.{same_outside}
 use Rattle.bits.proofs.OneField.{get-get}

@@ -4,8 +4,7 @@ ghost use Rattle.aarch64.specs.Meaning.{aarch64, is_long_veneer, long_jump, word
 ghost use Rattle.aarch64.specs.Lawful.{aarch64_lawful};
 
 use bits::{read_word, sign_extend};
-use isa::words::{self, WordSet};
-use isa::{Found, InstructionSet, Role};
+use isa::{Found, InstructionSet, Role, words};
 
 /// TBZ and TBNZ
 pub const BRANCH14: u32 = 0;
@@ -127,7 +126,7 @@ impl InstructionSet for AArch64 {
     }
 
     fn read(&self, kind: u32, bytes: &[u8]) -> i64 {
-        self.displacement_in(kind, bytes)
+        words::read(self, kind, bytes)
     }
 
     fn patch(&self, kind: u32, bytes: &mut [u8], displacement: i64) {

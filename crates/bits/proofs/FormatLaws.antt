@@ -1,32 +1,23 @@
 -- The laws of every format: what is read after a patch is the displacement, and the rest of the bytes stays.
 use Rattle.std.proofs.Common.{◌≡◌, ℕ, ◌+◌, ◌-◌, ◌*◌, ◌%◌, ◌^◌, ◌<◌, ◌≤◌, Bool, ◌&&◌, T, eqb, ltb, leb, List, [], ◌∷◌, length, ℤ, pos, nat_abs, sym, refl, ap, ◌∙◌, subst, mod-eq_of_lt, zero-add, arith, eqb→eq, ltb→lt, leb→le, pow_pos, pow_mono, w32, of_z}
+use Rattle.std.specs.Prelude.{IsTrue}
+use Rattle.std.specs.List.{All}
 use lib.Signed.{mag}
 use lib.Pow.{mod-mod-pow}
 use Rattle.std.proofs.lemmas.Nat.{mod_below}
-use Rattle.bits.specs.Fields.{get, Piece, piece, scatter, gather}
+use Rattle.bits.specs.declared.pieces.Piece.{Piece}
+use Rattle.bits.specs.Fields.{get, WithinWord, piece, scatter, gather}
+pub use Rattle.bits.specs.Formats.{first, good}
 use Rattle.bits.specs.Words.{word, to_bytes, Octets, signed}
 use Rattle.bits.specs.Formats.{Format, pieces, whole, width, reading, rewriting, patching, clearing}
 use Rattle.bits.proofs.LittleEndian.{word_fits, word-to_bytes, length-to_bytes, octets_to_bytes, to_bytes-word, signed_low, signed_same, bits_whole}
-use Rattle.bits.proofs.Scattered.{and_left, and_right, clear, laid, runs, gather-scatter, get-scatter, held_run, scatter-fits, gather-fits, scatter-gather}
+use Rattle.bits.proofs.Scattered.{and_left, and_right, clear, laid, runs, gather-scatter, get-scatter, held_run, scatter-fits, gather-fits, scatter-gather, within_word}
 use Rattle.bits.proofs.Outside.{scatter-scatter}
-
--- the lowest bit of the displacement that the pieces hold
-abbrev first : List Piece → ℕ
-first [] = 0
-first (p ∷ ps) = p.from
 
 -- the bit of the sign
 abbrev pub top : Format → ℕ
 top (pieces n ps h) = h
 top (whole n) = 8 * n - 1
-
--- A format for displacements that are multiples of 2 ^ e: the pieces lie in a word and apart, and hold all bits from
--- one that is 0 in every such displacement up to the sign's.
-abbrev pub good : ℕ → Format → Bool
-good e (pieces n ps h) =
-    leb 1 n && (leb n 4 && (laid (8 * n) ps && (runs (first ps) ps (h + 1)
-    && (leb (first ps) e && (leb e 32 && ltb h 32)))))
-good e (whole n) = eqb n 4 && leb e 32
 
 -- what the test says of pieces, by name
 record Sound (e n : ℕ) (ps : List Piece) (h : ℕ) : Type 0 where
@@ -49,6 +40,21 @@ sound e n ps h t =
       multiple = leb→le e 32 (and_left _ _ t4);
       short = ltb→lt h 32 (and_right (leb e 32) _ t4);
     }
+
+-- what code may do with the pieces of a word of four bytes
+pub record Usable (ps : List Piece) (h : ℕ) : Type 0 where
+  pub within : All WithinWord ps
+  pub short : h < 32
+  pub held : (x : ℕ) → gather ps x < 2 ^ (h + 1)
+  pub fits : (x : ℕ) → gather ps x < 2 ^ 32
+
+pub usable : (ps : List Piece) (h : ℕ) → IsTrue (good 32 (pieces 4 ps h)) → Usable ps h
+usable ps h t =
+    let s = sound 32 4 ps h (subst T (sym t) tt) in
+    let l = s.short in
+    let held = λ (x : ℕ). gather-fits ps (first ps) (h + 1) x s.row in
+    let most : 2 ^ (h + 1) ≤ 2 ^ 32 = pow_mono {i = h + 1} {j = 32} (omega arith) in
+    record { within = within_word ps (first ps) (h + 1) s.lies s.row (omega arith); short = l; held = held; fits = λ x. omega (arith, held x, most) }
 
 -- a multiple of 2 ^ e is one of any smaller power
 low_zero : (u a e : ℕ) → a ≤ e → u % 2 ^ e ≡ 0 → u % 2 ^ a ≡ 0

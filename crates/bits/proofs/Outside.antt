@@ -2,7 +2,8 @@
 use Rattle.std.proofs.Common.{◌≡◌, ℕ, zero, suc, ◌+◌, ◌-◌, ◌*◌, ◌/◌, ◌%◌, ◌^◌, ◌<◌, ◌≤◌, Bool, true, false, ◌&&◌, ◌||◌, T, leb, List, [], ◌∷◌, sym, ap, ◌∙◌, inl, inr, pow-suc, arith, le→leb, shr-shr}
 use Rattle.std.proofs.lemmas.Nat.{div_below}
 use Rattle.std.proofs.lemmas.Bool.{cases_lt}
-use Rattle.bits.specs.Fields.{get, put, Piece, piece, scatter}
+use Rattle.bits.specs.declared.pieces.Piece.{Piece}
+use Rattle.bits.specs.Fields.{get, put, piece, scatter}
 use Rattle.bits.proofs.OneField.{get-lt, get-get, get-put, get_put_above, get_put_below}
 use Rattle.bits.proofs.Scattered.{apart, clear, laid, get-scatter, scatter-fits}
 

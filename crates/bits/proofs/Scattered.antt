@@ -1,7 +1,10 @@
 -- The laws of a scattered field. That its pieces lie apart, and in a row, are tests, which compute at written lists.
-use Rattle.std.proofs.Common.{◌≡◌, ℕ, ◌+◌, ◌*◌, ◌/◌, ◌%◌, ◌^◌, ◌<◌, Bool, true, false, ◌&&◌, ◌||◌, T, eqb, leb, ◌⊎◌, List, [], ◌∷◌, sym, refl, ap, ◌∙◌, inl, inr, add-zero, add-mul, add_comm, arith, eqb→eq, leb→le, pow_pos}
+use Rattle.std.proofs.Common.{◌≡◌, ℕ, zero, suc, ◌+◌, ◌*◌, ◌/◌, ◌%◌, ◌^◌, ◌<◌, ◌≤◌, Bool, true, false, ◌&&◌, ◌||◌, T, eqb, leb, ◌⊎◌, List, [], ◌∷◌, ◌++◌, sym, refl, ap, ◌∙◌, inl, inr, add-zero, add-mul, add_comm, arith, eqb→eq, leb→le, pow_pos}
 use lib.Pow.{mod-pow-add}
-use Rattle.bits.specs.Fields.{get, put, Piece, scatter, gather}
+use Rattle.std.specs.List.{All}
+use Rattle.bits.specs.declared.pieces.Piece.{Piece}
+use Rattle.bits.specs.Fields.{get, put, WithinWord, scatter, gather}
+pub use Rattle.bits.specs.Fields.{apart, clear, laid, runs}
 use Rattle.bits.proofs.OneField.{get-lt, shifted, middle_lt, get_middle, get-put, get_put_above, get_put_below, put-fits, put-get}
 
 pub and_left : (a b : Bool) → T (a && b) → T a
@@ -15,25 +18,6 @@ and_right false b t = absurd t
 or_cases : (a b : Bool) → T (a || b) → T a ⊎ T b
 or_cases true b t = inl tt
 or_cases false b t = inr t
-
--- two pieces lie apart in the word
-abbrev pub apart : Piece → Piece → Bool
-apart p q = leb (p.at + p.wide) q.at || leb (q.at + q.wide) p.at
-
--- a piece lies apart from each of some pieces
-abbrev pub clear : Piece → List Piece → Bool
-clear p [] = true
-clear p (q ∷ qs) = apart p q && clear p qs
-
--- the pieces lie in m bits and apart
-abbrev pub laid : ℕ → List Piece → Bool
-laid m [] = true
-laid m (p ∷ ps) = leb (p.at + p.wide) m && (clear p ps && laid m ps)
-
--- the pieces hold the bits from a to b of the number, in order
-abbrev pub runs : ℕ → List Piece → ℕ → Bool
-runs a [] b = eqb a b
-runs a (p ∷ ps) b = eqb p.from a && runs (a + p.wide) ps b
 
 -- the bits of the number u that the pieces hold
 abbrev pub held : List Piece → ℕ → ℕ
@@ -134,6 +118,24 @@ gather-lt (p ∷ ps) a b x l t h =
 -- pieces in a row up to bit b make a number of b bits
 pub gather-fits : (ps : List Piece) (a b x : ℕ) → T (runs a ps b) → gather ps x < 2 ^ b
 gather-fits ps a b x t = omega (arith, gather-lt ps a b x 0 t (pow_pos a))
+
+-- pieces in a row go up
+runs-le : (ps : List Piece) (a b : ℕ) → T (runs a ps b) → a ≤ b
+runs-le [] a b t = omega (arith, eqb→eq a b t)
+runs-le (p ∷ ps) a b t = omega (arith, runs-le ps (a + p.wide) b (run_rest a b p ps t))
+
+-- and lie in the number, as they do in the word
+pub within_word : (ps : List Piece) (a b : ℕ) → T (laid 32 ps) → T (runs a ps b) → b ≤ 32 → All WithinWord ps
+within_word [] a b t r l k d h = absurd (omega arith)
+within_word (p ∷ ps) a b t r l zero d h =
+    record { place = leb→le _ _ (laid_within 32 p ps t); source = omega (arith, run_from a b p ps r, runs-le ps (a + p.wide) b (run_rest a b p ps r)) }
+within_word (p ∷ ps) a b t r l (suc k) d h =
+    within_word ps (a + p.wide) b (laid_rest 32 p ps t) (run_rest a b p ps r) l k d (omega arith)
+
+-- the last piece is put in first
+pub scatter-push : (ps : List Piece) (p : Piece) (x u : ℕ) → scatter (ps ++ (p ∷ [])) x u ≡ scatter ps (put p.at p.wide x (get p.from p.wide u)) u
+scatter-push [] p x u = refl
+scatter-push (q ∷ ps) p x u = ap (λ (z : ℕ). put q.at q.wide z (get q.from q.wide u)) (scatter-push ps p x u)
 
 -- the number that pieces in a row make begins at bit a
 gather_above : (ps : List Piece) (a b x : ℕ) → T (runs a ps b) → (q : ℕ) × (gather ps x ≡ q * 2 ^ a)

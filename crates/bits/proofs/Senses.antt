@@ -1,6 +1,7 @@
 -- A branch's sense is a bit apart from the field. What turning it round changes, and what clearing it loses.
 use Rattle.std.proofs.Common.{◌≡◌, ℕ, zero, suc, ◌-◌, ◌*◌, ◌^◌, ◌<◌, not, T, eqb, List, ◌∷◌, sym, refl, ap, ◌∙◌, arith}
-use Rattle.bits.specs.Fields.{get, put, flip, Piece, piece, scatter, gather}
+use Rattle.bits.specs.declared.pieces.Piece.{Piece}
+use Rattle.bits.specs.Fields.{get, put, flip, piece, scatter, gather}
 use Rattle.bits.specs.Formats.{pieces, reading}
 use Rattle.bits.specs.Words.{word, to_bytes, signed}
 use Rattle.bits.proofs.LittleEndian.{word_fits, word-to_bytes}

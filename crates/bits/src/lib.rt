@@ -7,9 +7,11 @@
 #![tactic(auto)]
 
 mod fields;
+mod formats;
 mod pieces;
 mod words;
 
 pub use fields::{flip_bit, get_field, put_field};
-pub use pieces::{copy_piece, sign_extend};
+pub use formats::Format;
+pub use pieces::{Piece, copy_piece, sign_extend};
 pub use words::{low_bits, read_word, write_word};

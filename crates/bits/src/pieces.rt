@@ -1,17 +1,56 @@
-// Pieces of a number in a word.
+// Numbers scattered over the pieces of a word.
 ghost use Rattle.std.specs.Prelude.{◌≡◌, ◌+◌, ◌^◌, ◌<◌, ◌≤◌, pos, negsuc, ◌≤ℤ◌};
-ghost use Rattle.bits.specs.Fields.{get, put};
+ghost use Rattle.std.specs.List.{All};
+ghost use Rattle.bits.specs.Fields.{WithinWord, get, put, scatter, gather};
 ghost use Rattle.bits.specs.Words.{signed};
 
 use crate::fields::{get_field, put_field};
 
-/// The word with the `width` bits of a number from bit `from` in its `width` bits from bit `at`.
-pub fn copy_piece(code: u32, at: u32, width: u32, number: u32, from: u32) -> u32
-    requires place_in { at + width ≤ 32 }
-    requires source_in { from + width ≤ 32 }
-    ensures { result ≡ put at width code (get from width number) }
+/// A part of a scattered number: the `wide` bits from bit `from` of the number stand at bit `at` of the word.
+#[derive(Clone, Copy, PartialEq, Eq, Debug)]
+pub struct Piece {
+    pub at: u32,
+    pub wide: u32,
+    pub from: u32,
+}
+
+/// The word with a piece of a number in its place.
+pub fn copy_piece(code: u32, piece: Piece, number: u32) -> u32
+    requires place_in { piece.at + piece.wide ≤ 32 }
+    requires source_in { piece.from + piece.wide ≤ 32 }
+    ensures { result ≡ put piece.at piece.wide code (get piece.from piece.wide number) }
 {
-    put_field(code, at, width, get_field(number, from, width))
+    put_field(
+        code,
+        piece.at,
+        piece.wide,
+        get_field(number, piece.from, piece.wide),
+    )
+}
+
+// The word with the pieces of a number.
+pub fn scattered(pieces: &[Piece], code: u32, number: u32) -> u32
+    requires { All WithinWord pieces.now }
+    ensures { result ≡ scatter pieces.now code number }
+{
+    let mut code = code;
+    for piece in pieces.iter().rev() {
+        code = copy_piece(code, *piece, number);
+    }
+    code
+}
+
+// The number whose pieces stand in a word.
+pub fn gathered(pieces: &[Piece], code: u32) -> u32
+    requires within_word { All WithinWord pieces.now }
+    requires number_fits { gather pieces.now code < 2 ^ 32 }
+    ensures { result ≡ gather pieces.now code }
+{
+    let mut number = 0;
+    for piece in pieces {
+        number += ((get_field(code, piece.at, piece.wide) as u64) << piece.from) as u32;
+    }
+    number
 }
 
 /// A number of `high` + 1 bits, read as two's complement.

@@ -2,38 +2,28 @@
 //
 // Such a set says where displacements stand in its words, which words are branches, and which bit is a
 // conditional's sense. What its methods do to bytes follows from that, and is written here once for all of them.
-ghost use Rattle.std.specs.Prelude.{◌≡◌, ℕ, ◌^◌, ◌<◌, ◌≤◌, length, drop, unwrap_or};
+ghost use Rattle.std.specs.Prelude.{◌≡◌, ℕ, ◌^◌, ◌<◌, ◌≤◌, length, drop, unwrap_or, IsTrue};
 ghost use Rattle.std.specs.List.{All};
 ghost use Rattle.std.specs.Int.Signed.{mag};
-ghost use Rattle.bits.specs.Formats.{width, reading, rewriting, clear_field};
+ghost use Rattle.bits.specs.Formats.{format_of, good};
 ghost use Rattle.isa.specs.declared.jumps.Found.{Found as FoundValue};
 ghost use Rattle.isa.specs.Finding.{is_branch_at, branch_at};
 ghost use Rattle.isa.specs.Roles.{same};
 ghost use Rattle.isa.specs.Words.{Encoding, reads, patched, role, turned, inverted, rest_word, rest, branch_at_head};
 
 use crate::jumps::{Found, Role};
-use bits::{flip_bit, low_bits, put_field, read_word, write_word};
+use bits::{Format, flip_bit, low_bits, put_field, read_word, write_word};
 
 /// What is particular to a set of words.
 pub trait WordSet {
     // Where displacements stand, which words are branches, and which bit is the sense.
     ghost encoding: { Self → Encoding };
 
-    /// The word with a displacement's bits in the field of a kind.
-    fn rewrite(&self, kind: u32, code: u32, bits: u32) -> u32
+    /// Where a kind's displacement stands.
+    fn format(&self, kind: u32) -> Format
         requires { kind < (encoding self.now).kinds }
-        ensures { result ≡ rewriting ((encoding self.now).format kind) code bits };
-
-    /// The word with the field of a kind cleared.
-    fn clear(&self, kind: u32, code: u32) -> u32
-        requires { kind < (encoding self.now).kinds }
-        ensures { result ≡ clear_field ((encoding self.now).format kind) code };
-
-    /// The displacement in the field of a kind.
-    fn displacement_in(&self, kind: u32, bytes: &[u8]) -> i64
-        requires kind_bound { kind < (encoding self.now).kinds }
-        requires word_long { length bytes.now ≡ 4 }
-        ensures { result ≡ reads (encoding self.now) kind bytes.now };
+        ensures value { format_of result ≡ (encoding self.now).format kind }
+        ensures good { IsTrue (good 32 (format_of result)) };
 
     /// The role of a word as a use of a kind.
     fn role_of_word(&self, kind: u32, code: u32) -> Role
@@ -43,9 +33,15 @@ pub trait WordSet {
     fn sense_bit(&self, code: u32) -> u32
         ensures value { result ≡ (encoding self.now).sense code }
         ensures within { result < 32 };
+}
 
-    // Each field stands in a word of four bytes.
-    ghost words: { (s : Self) (k : ℕ) → k < (encoding s).kinds → width ((encoding s).format k) ≡ 4 };
+/// The displacement that the bytes hold.
+pub fn read<S: WordSet>(set: &S, kind: u32, bytes: &[u8]) -> i64
+    requires kind_bound { kind < (S.encoding set.now).kinds }
+    requires word_long { length bytes.now ≡ 4 }
+    ensures { result ≡ reads (S.encoding set.now) kind bytes.now }
+{
+    set.format(kind).read(bytes)
 }
 
 /// Writes a displacement.
@@ -55,7 +51,9 @@ pub fn patch<S: WordSet>(set: &S, kind: u32, bytes: &mut [u8], displacement: i64
     requires small { mag displacement < 2 ^ 31 }
     ensures { bytes.new ≡ patched (S.encoding set.now) kind bytes.old displacement }
 {
-    let patched = set.rewrite(kind, read_word(bytes), low_bits(displacement));
+    let patched = set
+        .format(kind)
+        .rewrite(read_word(bytes), low_bits(displacement));
     write_word(bytes, patched);
 }
 
@@ -72,7 +70,7 @@ fn rest_of_word<S: WordSet>(set: &S, kind: u32, code: u32) -> u32
     requires { kind < (S.encoding set.now).kinds }
     ensures { result ≡ rest_word (S.encoding set.now) kind code }
 {
-    put_field(set.clear(kind, code), set.sense_bit(code), 1, 0)
+    put_field(set.format(kind).clear(code), set.sense_bit(code), 1, 0)
 }
 
 /// Whether the bytes of two conditionals are equal but for the field and the sense.
@@ -118,7 +116,7 @@ fn branch_of<S: WordSet>(set: &S, kind: u32, code: &[u8]) -> Found
     Found::Branch {
         role: role(set, kind, head),
         size: 4,
-        displacement: set.displacement_in(kind, head),
+        displacement: read(set, kind, head),
     }
 }
 

@@ -1,57 +1,69 @@
-// Displacements, branches and senses in words.
-ghost use Rattle.std.specs.Prelude.{◌≡◌, ◌<◌, length};
-ghost use Rattle.bits.specs.Formats.{reading, rewriting};
-ghost use Rattle.riscv.specs.Fields.{format};
-ghost use Rattle.riscv.specs.KindTables.{formatted};
+// Where displacements and senses stand, as the manual draws them.
 ghost use Rattle.riscv.specs.Meaning.{riscv_words};
-ghost use Rattle.riscv.specs.Roles.{role_of};
 
 use crate::roles::{branch_role_of, jump_role_of};
 use crate::set::{B12, J20, RiscV};
-use bits::{copy_piece, get_field, read_word, sign_extend};
+use bits::{Format, Piece};
 use isa::Role;
 use isa::words::WordSet;
+
+const B_TYPE: Format = Format::Pieces {
+    pieces: &[
+        Piece {
+            at: 8,
+            wide: 4,
+            from: 1,
+        },
+        Piece {
+            at: 25,
+            wide: 6,
+            from: 5,
+        },
+        Piece {
+            at: 7,
+            wide: 1,
+            from: 11,
+        },
+        Piece {
+            at: 31,
+            wide: 1,
+            from: 12,
+        },
+    ],
+    sign: 12,
+};
+
+const J_TYPE: Format = Format::Pieces {
+    pieces: &[
+        Piece {
+            at: 21,
+            wide: 10,
+            from: 1,
+        },
+        Piece {
+            at: 20,
+            wide: 1,
+            from: 11,
+        },
+        Piece {
+            at: 12,
+            wide: 8,
+            from: 12,
+        },
+        Piece {
+            at: 31,
+            wide: 1,
+            from: 20,
+        },
+    ],
+    sign: 20,
+};
 
 impl WordSet for RiscV {
     ghost encoding = { λ _. riscv_words };
 
-    ghost words = { λ _. formatted.wide };
-
-    // The pieces of a kind are stated here and in `displacement_in`, and both are proved to be those of the format:
-    // they differ in number, and one walk over a table of pieces is no plainer.
-    fn rewrite(&self, kind: u32, code: u32, bits: u32) -> u32 {
-        if kind == B12 {
-            let code = copy_piece(code, 31, 1, bits, 12);
-            let code = copy_piece(code, 7, 1, bits, 11);
-            let code = copy_piece(code, 25, 6, bits, 5);
-            copy_piece(code, 8, 4, bits, 1)
-        } else {
-            let code = copy_piece(code, 31, 1, bits, 20);
-            let code = copy_piece(code, 12, 8, bits, 12);
-            let code = copy_piece(code, 20, 1, bits, 11);
-            copy_piece(code, 21, 10, bits, 1)
-        }
-    }
-
-    fn clear(&self, kind: u32, code: u32) -> u32 {
-        self.rewrite(kind, code, 0)
-    }
-
-    fn displacement_in(&self, kind: u32, bytes: &[u8]) -> i64 {
-        let code = read_word(bytes);
-        if kind == B12 {
-            let low = get_field(code, 8, 4) * 2 + get_field(code, 25, 6) * 32;
-            sign_extend(
-                low + get_field(code, 7, 1) * 2048 + get_field(code, 31, 1) * 4096,
-                12,
-            )
-        } else {
-            let low = get_field(code, 21, 10) * 2 + get_field(code, 20, 1) * 2048;
-            sign_extend(
-                low + get_field(code, 12, 8) * 4096 + get_field(code, 31, 1) * 1048576,
-                20,
-            )
-        }
+    fn format(&self, kind: u32) -> Format {
+        if kind == B12 { B_TYPE } else { J_TYPE }
     }
 
     fn role_of_word(&self, kind: u32, code: u32) -> Role {

@@ -2,8 +2,7 @@
 ghost use Rattle.riscv.specs.Meaning.{riscv};
 ghost use Rattle.riscv.specs.Lawful.{riscv_lawful};
 
-use isa::words::{self, WordSet};
-use isa::{Found, InstructionSet, Role};
+use isa::{Found, InstructionSet, Role, words};
 
 /// BEQ, BNE, BLT, BGE, BLTU and BGEU
 pub const B12: u32 = 0;
@@ -52,7 +51,7 @@ impl InstructionSet for RiscV {
     }
 
     fn read(&self, kind: u32, bytes: &[u8]) -> i64 {
-        self.displacement_in(kind, bytes)
+        words::read(self, kind, bytes)
     }
 
     fn patch(&self, kind: u32, bytes: &mut [u8], displacement: i64) {

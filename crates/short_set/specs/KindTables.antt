@@ -3,7 +3,8 @@ use Rattle.std.specs.Prelude.{◌≡◌, ℕ, zero, suc, ◌+◌, ◌^◌, ◌<�
 use Rattle.std.proofs.Common.{sym, ◌∙◌, arith, leb→le, lit≤}
 use Rattle.std.specs.Int.Signed.{mag}
 use Rattle.std.proofs.lemmas.Bool.{eqb-true, and_parts}
-use Rattle.bits.specs.Fields.{Piece, get, piece}
+use Rattle.bits.specs.declared.pieces.Piece.{Piece}
+use Rattle.bits.specs.Fields.{get, piece}
 use Rattle.bits.specs.Formats.{width}
 use Rattle.bits.specs.Words.{word}
 use Rattle.bits.proofs.FormatLaws.{top, good, Fresh, same_outside}

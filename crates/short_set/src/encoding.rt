@@ -1,13 +1,42 @@
-// Displacements, branches and senses in words.
+// Where displacements and senses stand, and which words are branches.
 ghost use Rattle.std.specs.Prelude.{◌≡◌};
-ghost use Rattle.short_set.specs.KindTables.{formatted};
 ghost use Rattle.short_set.specs.Meaning.{short_words};
 ghost use Rattle.short_set.specs.Roles.{condition};
 
 use crate::set::{BRANCH, JUMP, LOAD, Short};
-use bits::{copy_piece, get_field, read_word, sign_extend};
+use bits::{Format, Piece, get_field};
 use isa::words::WordSet;
 use isa::{Condition, Family, Role};
+
+// Bits 15 to 12, times 2, of branches and loads.
+const NEAR: Format = Format::Pieces {
+    pieces: &[Piece {
+        at: 12,
+        wide: 4,
+        from: 1,
+    }],
+    sign: 4,
+};
+
+// Bits 17 to 12, times 2, of jumps.
+const MIDDLE: Format = Format::Pieces {
+    pieces: &[Piece {
+        at: 12,
+        wide: 6,
+        from: 1,
+    }],
+    sign: 6,
+};
+
+// Bits 31 to 12, times 2, of far jumps.
+const FAR_REACHING: Format = Format::Pieces {
+    pieces: &[Piece {
+        at: 12,
+        wide: 20,
+        from: 1,
+    }],
+    sign: 20,
+};
 
 fn condition_of(code: u32) -> Condition
     ensures { result ≡ condition code }
@@ -23,26 +52,11 @@ fn condition_of(code: u32) -> Condition
 impl WordSet for Short {
     ghost encoding = { λ _. short_words };
 
-    ghost words = { λ _. formatted.wide };
-
-    fn rewrite(&self, kind: u32, code: u32, bits: u32) -> u32 {
+    fn format(&self, kind: u32) -> Format {
         match kind {
-            BRANCH | LOAD => copy_piece(code, 12, 4, bits, 1),
-            JUMP => copy_piece(code, 12, 6, bits, 1),
-            _ => copy_piece(code, 12, 20, bits, 1),
-        }
-    }
-
-    fn clear(&self, kind: u32, code: u32) -> u32 {
-        self.rewrite(kind, code, 0)
-    }
-
-    fn displacement_in(&self, kind: u32, bytes: &[u8]) -> i64 {
-        let code = read_word(bytes);
-        match kind {
-            BRANCH | LOAD => sign_extend(get_field(code, 12, 4) * 2, 4),
-            JUMP => sign_extend(get_field(code, 12, 6) * 2, 6),
-            _ => sign_extend(get_field(code, 12, 20) * 2, 20),
+            BRANCH | LOAD => NEAR,
+            JUMP => MIDDLE,
+            _ => FAR_REACHING,
         }
     }
 

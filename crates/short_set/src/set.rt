@@ -3,8 +3,7 @@ ghost use Rattle.short_set.specs.Meaning.{short};
 ghost use Rattle.short_set.specs.Lawful.{short_lawful};
 
 use bits::write_word;
-use isa::words::{self, WordSet};
-use isa::{Found, InstructionSet, Role};
+use isa::{Found, InstructionSet, Role, words};
 
 /// a branch on a test of the flags
 pub const BRANCH: u32 = 0;
@@ -54,7 +53,7 @@ impl InstructionSet for Short {
     }
 
     fn read(&self, kind: u32, bytes: &[u8]) -> i64 {
-        self.displacement_in(kind, bytes)
+        words::read(self, kind, bytes)
     }
 
     fn patch(&self, kind: u32, bytes: &mut [u8], displacement: i64) {
