@@ -6,9 +6,7 @@
 #![tactic(auto)]
 
 ghost use Rattle.std.specs.Prelude.{IfOk};
-ghost use Rattle.buffer.specs.View.{view};
 ghost use Rattle.replay.specs.Replays.{Replayed};
-ghost use Rattle.replay.specs.Tokens.{Held};
 ghost use Rattle.assemble.specs.Meant.{calls_meant};
 
 mod error;
@@ -45,16 +43,12 @@ fn print_answers(rt: &impl Print, script: &Script, answers: &[Answer]) -> io::Re
 }
 
 fn print_tables<S: InstructionSet + Drop>(rt: &impl Print, replay: &Replay<S>) -> io::Result<()> {
-    let buffer = &replay.buffer;
+    let buffer = &replay.session.buffer;
     println!(rt; "code {}", Code(buffer.code()))?;
     println!(rt; "labels {}", Labels(buffer))?;
     println!(rt; "traps {}", Rows(buffer.traps()))?;
     println!(rt; "constants {}", Rows(buffer.placed_constants()))?;
-    let balance = Balance {
-        counts: replay.counts,
-        waiting: buffer.waiting_len(),
-    };
-    println!(rt; "counts {balance}")
+    println!(rt; "counts {}", Balance(replay))
 }
 
 fn print_replay<S: InstructionSet + Drop>(
@@ -78,29 +72,15 @@ fn replay_script<S: InstructionSet + Drop>(
     replay_calls(heap, set, calls.as_slice())
 }
 
-// Ends with a buffer. A region that is still open is closed first.
-fn let_go<S: InstructionSet + Drop>(replay: Replay<S>)
-    requires { Held replay.token (view replay.buffer) }
-{
-    let Replay {
-        mut buffer,
-        token,
-        answers: _,
-        counts: _,
-    } = replay;
-    let Some(region) = token else {
-        return;
-    };
-    match buffer.end_patchable(region) {
-        Ok(_) => {}
-        Err(_) => unreachable(),
-    }
-}
-
 fn run<S: InstructionSet + Drop>(rt: &HostRuntime, set: S, script: &Script) -> io::Result<()> {
     let replay = replay_script(rt.alloc(), set, script)?;
     let printed = print_replay(rt, script, &replay);
-    let_go(replay);
+    let Replay {
+        session,
+        answers: _,
+        counts: _,
+    } = replay;
+    session.let_go();
     printed
 }
 

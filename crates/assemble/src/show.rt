@@ -1,10 +1,14 @@
 // Answers and tables as text.
+ghost use Rattle.std.specs.Prelude.{◌<◌, length};
+ghost use Rattle.std.specs.Iterator.{IsFinite};
+ghost use Rattle.buffer.specs.View.{view};
+
 use buffer::buffer::MachBuffer;
 use isa::InstructionSet;
 use jump_report::text::Hex;
 use model::Refusal;
 use model::rows::{PlacedConstant, Region, Trap};
-use replay::{Answer, Call, Counts};
+use replay::{Answer, Call, Counts, Replay, Reply};
 use std::fmt;
 
 /// What a call answered.
@@ -17,15 +21,15 @@ pub struct Answered<'a> {
 impl fmt::Display for Answered<'_> {
     fn fmt<W: fmt::Write>(&self, f: &mut fmt::Formatter<W>) -> fmt::Result {
         match self.answer {
-            Answer::Granted => f.write_str("granted"),
-            Answer::Number(number) => match self.call {
+            Ok(Reply::Granted) => f.write_str("granted"),
+            Ok(Reply::Number(number)) => match self.call {
                 Call::CurOffset | Call::ResolveLabelOffset { .. } => write!(f, "{number}"),
                 Call::StartPatchable => f.write_str("granted"),
                 _ => write!(f, "granted {number}"),
             },
-            Answer::Closed(Region { start, len }) => write!(f, "granted {start} {len}"),
-            Answer::YesNo(yes) => f.write_str(if yes { "1" } else { "0" }),
-            Answer::Refused(refusal) => write!(f, "refused {}", Numbered(refusal)),
+            Ok(Reply::Closed(Region { start, len })) => write!(f, "granted {start} {len}"),
+            Ok(Reply::YesNo(yes)) => write!(f, "{}", u8::from(yes)),
+            Err(refusal) => write!(f, "refused {}", Numbered(refusal)),
         }
     }
 }
@@ -57,43 +61,70 @@ impl fmt::Display for Code<'_> {
     }
 }
 
+// Items with a space between each two, or `-` for none.
+fn write_joined<W: fmt::Write, T: fmt::Display + Drop, I: Iterator<Item = T> + Drop>(
+    f: &mut fmt::Formatter<W>,
+    mut items: I,
+) -> fmt::Result
+    requires { I.can_next items × IsFinite (I.remaining items) }
+{
+    let Some(first) = items.next() else {
+        return f.write_str("-");
+    };
+    write!(f, "{first}")?;
+    for item in items {
+        write!(f, " {item}")?;
+    }
+    Ok(())
+}
+
 /// Where the labels of a buffer are, or `-` where it has none.
 #[derive(Drop)]
 pub struct Labels<'a, S>(pub &'a MachBuffer<S>);
 
 impl<S: InstructionSet + Drop> fmt::Display for Labels<'_, S> {
     fn fmt<W: fmt::Write>(&self, f: &mut fmt::Formatter<W>) -> fmt::Result {
-        let labels = self.0.labels_len();
-        if labels == 0 {
-            return f.write_str("-");
-        }
-        for label in 0..labels {
-            if label > 0 {
-                f.write_char(' ')?;
-            }
-            match self.0.resolve_label_offset(label) {
-                Ok(offset) => write!(f, "{offset}")?,
-                Err(_) => unreachable(),
-            }
-        }
-        Ok(())
+        let buffer = self.0;
+        write_joined(
+            f,
+            (0..buffer.labels_len()).map(
+                |label|
+                    requires { label < length (view buffer.now).labels }
+                { buffer.resolve_label_offset(label).unwrap() },
+            ),
+        )
     }
 }
 
 /// A row of a table as an offset and a number.
-pub trait Pair {
-    fn pair(&self) -> (u32, u32);
+#[derive(Clone, Copy)]
+pub struct Row {
+    offset: u32,
+    number: u32,
 }
 
-impl Pair for Trap {
-    fn pair(&self) -> (u32, u32) {
-        (self.offset, self.code)
+impl From<Trap> for Row {
+    fn from(trap: Trap) -> Row {
+        Row {
+            offset: trap.offset,
+            number: trap.code,
+        }
     }
 }
 
-impl Pair for PlacedConstant {
-    fn pair(&self) -> (u32, u32) {
-        (self.offset, self.number)
+impl From<PlacedConstant> for Row {
+    fn from(constant: PlacedConstant) -> Row {
+        Row {
+            offset: constant.offset,
+            number: constant.number,
+        }
+    }
+}
+
+impl fmt::Display for Row {
+    fn fmt<W: fmt::Write>(&self, f: &mut fmt::Formatter<W>) -> fmt::Result {
+        let Row { offset, number } = *self;
+        write!(f, "{offset}:{number}")
     }
 }
 
@@ -101,42 +132,31 @@ impl Pair for PlacedConstant {
 #[derive(Drop)]
 pub struct Rows<'a, T>(pub &'a [T]);
 
-impl<T: Pair> fmt::Display for Rows<'_, T> {
+impl<T: Copy> fmt::Display for Rows<'_, T>
+where
+    Row: From<T>,
+{
     fn fmt<W: fmt::Write>(&self, f: &mut fmt::Formatter<W>) -> fmt::Result {
-        if self.0.is_empty() {
-            return f.write_str("-");
-        }
-        for (i, row) in self.0.iter().enumerate() {
-            if i > 0 {
-                f.write_char(' ')?;
-            }
-            let (offset, number) = row.pair();
-            write!(f, "{offset}:{number}")?;
-        }
-        Ok(())
+        write_joined(f, self.0.iter().map(|row| Row::from(*row)))
     }
 }
 
-/// The counts, and how many uses wait.
-#[derive(Clone, Copy)]
-pub struct Balance {
-    pub counts: Counts,
-    pub waiting: u32,
-}
+/// The counts of a list of calls, and how many uses wait.
+#[derive(Drop)]
+pub struct Balance<'a, S>(pub &'a Replay<S>);
 
-impl fmt::Display for Balance {
+impl<S: InstructionSet + Drop> fmt::Display for Balance<'_, S> {
     fn fmt<W: fmt::Write>(&self, f: &mut fmt::Formatter<W>) -> fmt::Result {
         let Counts {
             accepted,
             made,
             patched,
             removed,
-        } = self.counts;
-        let waiting = self.waiting;
+        } = self.0.counts;
+        let waiting = self.0.session.buffer.waiting_len();
         write!(
             f,
-            "accepted {accepted} made {made} patched {patched} removed {removed} "
-        )?;
-        write!(f, "waiting {waiting}")
+            "accepted {accepted} made {made} patched {patched} removed {removed} waiting {waiting}"
+        )
     }
 }
