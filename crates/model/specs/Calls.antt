@@ -29,12 +29,13 @@ misaligned i s = not (cur_offset s % i.align == 0)
 abbrev pub add_label : State → Bool → State
 add_label s reserved = with_labels s (s.labels ++ unbound reserved ∷ [])
 
+-- one label more, if there is room for it
+abbrev pub new_label : State → Bool → Result ℕ Refusal × State
+new_label s reserved = cond (labels_full s) (Err LabelsFull, s) (Ok (length s.labels), add_label s reserved)
+
 -- Labels are numbered from 0.
 abbrev pub get_label : State → Result ℕ Refusal × State
-get_label s =
-    cond s.broken (Err BrokenOff, s)
-    (cond (labels_full s) (Err LabelsFull, s)
-    (Ok (length s.labels), add_label s false))
+get_label s = cond s.broken (Err BrokenOff, s) (new_label s false)
 
 -- a label that was bound, has become an alias, or is reserved
 abbrev pub is_taken : State → ℕ → Bool

@@ -6,21 +6,19 @@ ghost use Rattle.tables.specs.View.{view};
 use model::Refusal;
 use model::rows::Trap;
 use slices::bytes::{is_alignment_number, padding_of};
-use tables::capacities::{MAX_CODE, MAX_TRAPS};
+use tables::capacities::MAX_CODE;
 use tables::tables::Tables;
 
 /// Appends bytes, which may trap if the trap code is not 0.
 pub fn put_data(tables: &mut Tables, trap: u32, bytes: &[u8]) -> Result<u32, Refusal>
     ensures { (result, view tables.new) ≡ put_data (view tables.old) trap bytes.now }
 {
-    if tables.broken {
-        return Err(Refusal::BrokenOff);
-    }
+    tables.unbroken()?;
     if trap > 255 || (trap > 0 && bytes.len() == 0) {
         return Err(Refusal::BadBytes);
     }
-    if trap > 0 && tables.traps.rows.len() + tables.deferred.rows.len() >= MAX_TRAPS {
-        return Err(Refusal::TrapsFull);
+    if trap > 0 {
+        tables.trap_room()?;
     }
     let offset = tables.code.rows.len();
     if bytes.len() > MAX_CODE - offset {
@@ -40,9 +38,7 @@ pub fn put_data(tables: &mut Tables, trap: u32, bytes: &[u8]) -> Result<u32, Ref
 pub fn align_to(tables: &mut Tables, n: u32) -> Result<(), Refusal>
     ensures { (result, view tables.new) ≡ align_to (view tables.old) n }
 {
-    if tables.broken {
-        return Err(Refusal::BrokenOff);
-    }
+    tables.unbroken()?;
     if !is_alignment_number(n) {
         return Err(Refusal::BadAlignment);
     }

@@ -4,20 +4,12 @@ ghost use Rattle.model.specs.Calls.{get_label};
 ghost use Rattle.tables.specs.View.{view};
 
 use model::Refusal;
-use tables::capacities::MAX_LABELS;
 use tables::tables::Tables;
 
 /// A new label, to be bound later.
 pub fn get_label(tables: &mut Tables) -> Result<u32, Refusal>
     ensures { (result, view tables.new) ≡ get_label (view tables.old) }
 {
-    if tables.broken {
-        return Err(Refusal::BrokenOff);
-    }
-    let number = tables.labels.rows.len();
-    if number >= MAX_LABELS {
-        return Err(Refusal::LabelsFull);
-    }
-    tables.push_label(false);
-    Ok(number as u32)
+    tables.unbroken()?;
+    tables.new_label(false)
 }

@@ -14,9 +14,7 @@ use tables::tables::Tables;
 pub fn start_patchable(tables: &mut Tables) -> Result<OpenPatchRegion, Refusal>
     ensures { (opened_number result, view tables.new) ≡ start_patchable (view tables.old) }
 {
-    if tables.broken {
-        return Err(Refusal::BrokenOff);
-    }
+    tables.unbroken()?;
     if tables.opened.is_some() {
         return Err(Refusal::RegionOpen);
     }

@@ -10,6 +10,7 @@ use crate::table::Table;
 use model::rows::{Branch, Constant, DeferredTrap, Fixup, Label, PlacedConstant, Region, Trap};
 
 mod branches;
+mod checks;
 mod constants;
 mod data;
 mod labels;
