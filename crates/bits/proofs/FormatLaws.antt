@@ -1,5 +1,5 @@
 -- The laws of every format: what is read after a patch is the displacement, and the rest of the bytes stays.
-use Rattle.std.proofs.Common.{◌≡◌, ℕ, ◌+◌, ◌-◌, ◌*◌, ◌%◌, ◌^◌, ◌<◌, ◌≤◌, Bool, ◌&&◌, T, eqb, ltb, leb, List, [], ◌∷◌, length, ℤ, pos, nat_abs, sym, refl, ap, ◌∙◌, subst, mod-eq_of_lt, zero-add, arith, eqb→eq, ltb→lt, leb→le, pow_pos, pow_mono, w32, of_z}
+use Rattle.std.proofs.Common.{◌≡◌, ℕ, ◌+◌, ◌-◌, ◌*◌, ◌%◌, ◌^◌, ◌<◌, ◌≤◌, T, eqb, leb, List, length, ℤ, pos, nat_abs, sym, refl, ap, ◌∙◌, subst, mod-eq_of_lt, zero-add, arith, eqb→eq, ltb→lt, leb→le, pow_pos, pow_mono, w32, of_z}
 use Rattle.std.specs.Prelude.{IsTrue}
 use Rattle.std.specs.List.{All}
 use lib.Signed.{mag}

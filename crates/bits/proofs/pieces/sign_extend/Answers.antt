@@ -18,12 +18,6 @@ signed_high : (h x : ℕ) → 2 ^ h ≤ x → signed h x ≡ negsuc (2 * 2 ^ h -
 unfolding signed
 signed_high h x l = cond-false (ltb x (2 ^ h)) (pos x) (negsuc (2 ^ (h + 1) - suc x)) (le-ltb x (2 ^ h) l) ∙ ap (λ (n : ℕ). negsuc (n - suc x)) (double h)
 
-pub overflow_sub-result : goal.overflow_sub-result
-overflow_sub-result c =
-    let e = one_shl c.args.high 64 (omega arith) in
-    let d = double c.args.high in
-    omega (arith, e, d)
-
 positive : (half x : ℕ) → half ≤ 2147483648 → x < half → to_z w64 x ≡ pos x
 positive half x a b = omega (arith, ints)
 
@@ -31,23 +25,19 @@ signed_low_half : (h x : ℕ) → x < 2 ^ h → signed h x ≡ pos x
 unfolding signed
 signed_low_half h x l = cond-true (ltb x (2 ^ h)) (pos x) (negsuc (2 ^ (h + 1) - suc x)) (lt-ltb x (2 ^ h) l)
 
-pub returns-then-value-half : goal.returns-then-value-half
-returns-then-value-half c =
+pub returns-then-value-half-clause-value : goal.returns-then-value-half-clause-value
+returns-then-value-half-clause-value c =
     let h = c.args.high in
     let x = c.args.value in
     let e : 1 * 2 ^ h % 18446744073709551616 ≡ 2 ^ h = one_shl h 64 (omega arith) in
     let b : x < 2 ^ h = omega (arith, e) in
-    let l = low h c.requires.high_bound in
-    let p = positive (2 ^ h) x l b in
-    record { value = p ∙ sym (signed_low_half h x b); up = rw p (omega (arith, ints)); down = rw p (omega (arith, ints)) }
+    positive (2 ^ h) x (low h c.requires.high_bound) b ∙ sym (signed_low_half h x b)
 
-pub returns-else-value-half : goal.returns-else-value-half
-returns-else-value-half c =
+pub returns-else-value-half-clause-value : goal.returns-else-value-half-clause-value
+returns-else-value-half-clause-value c =
     let h = c.args.high in
     let x = c.args.value in
     let e : 1 * 2 ^ h % 18446744073709551616 ≡ 2 ^ h = one_shl h 64 (omega arith) in
     let b : 2 ^ h ≤ x = omega (arith, e) in
     let d = double h in
-    let l = low h c.requires.high_bound in
-    let p = negative (2 ^ h) x l b (omega (arith, d)) in
-    rw e (record { value = p ∙ sym (signed_high h x b); up = rw p (omega (arith, ints)); down = rw p (omega (arith, ints)) })
+    rw e (negative (2 ^ h) x (low h c.requires.high_bound) b (omega (arith, d)) ∙ sym (signed_high h x b))
