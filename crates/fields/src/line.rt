@@ -10,20 +10,28 @@ use jump_report::text::SetName;
 use jump_report::{JumpReport, ReportError, Request, RequestError, set_jump};
 use riscv::RiscV;
 use std::alloc::{AllocError, Global};
+use thiserror::Error;
 
 /// Why a line is not done.
-#[derive(Clone, Copy)]
+#[derive(Clone, Copy, Debug, Error)]
 pub enum LineError {
+    #[error("out of memory")]
     OutOfMemory,
     /// it has other than four words
+    #[error("too {} words, {} in place of 4", if *.0 < 4 {"few"} else {"many"}, .0)]
     Words(usize),
     /// a word can't be read
+    #[error(transparent)]
     Word(RequestError),
+    #[error("no such kind; the set has {kinds}, numbered from 0")]
     NoSuchKind { kinds: u32 },
+    #[error("wrong length; the kind wants {wanted} bytes")]
     WrongLength { wanted: u32 },
-    /// the kind adds, and the bytes do not read 0
+    #[error("the kind adds, and the bytes do not read 0")]
     NotZero,
+    #[error("the displacement is no multiple of {align}")]
     NotAligned { align: u32 },
+    #[error("out of range; the kind reaches from -{back} to {ahead}")]
     OutOfReach { back: u32, ahead: u32 },
 }
 
@@ -81,17 +89,17 @@ fn report_by<S: InstructionSet>(
 ) -> Result<JumpReport, LineError>
     ensures { Done (S.meaning set.now) request.now result }
 {
-    match set_jump(
+    set_jump(
         heap,
         set,
         request.kind,
         &request.bytes,
         request.displacement,
-    ) {
-        Ok(report) => Ok(report),
-        Err(ReportError::OutOfMemory) => Err(LineError::OutOfMemory),
-        Err(ReportError::Refused(refusal)) => Err(explain(set, request, refusal)),
-    }
+    )
+    .map_err(|error| match error {
+        ReportError::OutOfMemory => LineError::OutOfMemory,
+        ReportError::Refused(refusal) => explain(set, request, refusal),
+    })
 }
 
 /// The report of the set that a request names.

@@ -7,10 +7,8 @@
 #![tactic(auto)]
 
 mod line;
-mod show;
 
 use crate::line::{LineError, parse_line, report_on};
-use crate::show::Shown;
 use jump_report::JumpReport;
 use jump_report::text::is_comment;
 use std::alloc::Global;
@@ -26,7 +24,7 @@ fn answer(heap: Global, line: &str) -> Result<JumpReport, LineError> {
 fn print_answer(rt: &impl Print, heap: Global, line: &str) -> io::Result<()> {
     println!(rt; "{line}")?;
     match answer(heap, line) {
-        Ok(report) => println!(rt; "{}", Shown(&report)),
+        Ok(report) => println!(rt; "{report}"),
         Err(error) => println!(rt; "  not done: {error}"),
     }
 }

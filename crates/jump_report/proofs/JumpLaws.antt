@@ -1,5 +1,5 @@
 -- What the laws of a set say of a report.
-use Rattle.std.proofs.Common.{◌≡◌, ℕ, true, List, [], ℤ, IfSome, Some, None, Option, sym, refl, ap, ◌∙◌, subst, append-nil, arith}
+use Rattle.std.proofs.Common.{◌≡◌, ℕ, true, List, [], ℤ, IfSome, Some, None, Option, sym, refl, ap, ◌∙◌, subst, append-nil}
 use Rattle.std.specs.Option.{option_map}
 use Rattle.isa.specs.declared.jumps.Found.TheVariants.{Branch}
 use Rattle.isa.specs.declared.jumps.Role.{Role}
@@ -27,14 +27,14 @@ module _ (i : Isa) (law : Lawful i) (k : ℕ) (b : List ℕ) (d : ℤ) (could : 
       ∙ ap (λ (r : Role). Branch r (i.size k) d) (sym same_role)
 
   turns : (r : Role) (v : List ℕ) → i.role k p ≡ r → Some v ≡ other_sense i k p r → Turned i k d r v
-  turns Unconditional v e o = let z : ◌≡◌ {A = ℕ} 0 1 = cc in absurd (omega arith)
+  turns Unconditional v e o = cc o
   turns (Conditional c s) v e o =
       let same : i.inverted k p ≡ v = cc in
       subst (Turned i k d (Conditional c s)) same (record {
         role = law.inverted_role k p c s of_p e;
         reads = law.inverted_reads k p c s of_p e ∙ law.reads_patched k b d could;
       })
-  turns NoBranch v e o = let z : ◌≡◌ {A = ℕ} 0 1 = cc in absurd (omega arith)
+  turns NoBranch v e o = cc o
 
   all_turned : {V : Type 0} (items : V → List ℕ) (o : Option V) (r : Role) → r ≡ i.role k p → option_map items o ≡ other_sense i k p (i.role k p) → IfSome o (λ v. Turned i k d r (items v))
   all_turned items None r e h = tt

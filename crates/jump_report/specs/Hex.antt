@@ -1,5 +1,9 @@
 -- Bytes as pairs of hexadecimal digits, the high digit first. A text is its ASCII codes.
 use Rattle.std.specs.Prelude.{ℕ, ◌+◌, ◌-◌, ◌*◌, ◌/◌, ◌%◌, ◌<◌, cond, ◌&&◌, List, [], ◌∷◌, Some, None, Option, nat_le, nat_lt, slice_index}
+use Rattle.hex.specs.declared.error.FromHexError.{FromHexError}
+use Rattle.hex.specs.declared.error.FromHexError.TheVariants.{InvalidHexCharacter, OddLength, InvalidStringLength, OutOfMemory as LibraryMemory}
+use Rattle.jump_report.specs.declared.text.HexError.{HexError}
+use Rattle.jump_report.specs.declared.text.HexError.TheVariants.{OutOfMemory, NotHex}
 
 -- the value of a digit, 0 to 9, a to f or A to F
 abbrev pub digit_value : ℕ → Option ℕ
@@ -39,3 +43,10 @@ hex_text (b ∷ bs) = digit_code (b / 16) ∷ digit_code (b % 16) ∷ hex_text b
 -- numbers that are bytes
 abbrev pub Small : List ℕ → Type 0
 Small bs = (k : ℕ) → slice_index bs k < 256
+
+-- why the library decodes no bytes
+abbrev pub from_library : FromHexError → HexError
+from_library (InvalidHexCharacter c i) = NotHex
+from_library OddLength = NotHex
+from_library InvalidStringLength = NotHex
+from_library LibraryMemory = OutOfMemory

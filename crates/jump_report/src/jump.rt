@@ -1,134 +1,86 @@
 // The report on one use.
-ghost use Rattle.std.specs.Prelude.{◌≡◌, ◌<◌, true, IfOk, vec_items};
+ghost use Rattle.std.specs.Prelude.{◌≡◌, IfOk, vec_items};
 ghost use Rattle.std.specs.Option.{option_map};
 ghost use Rattle.isa.specs.Isa.{Patchable};
 ghost use Rattle.isa.specs.Laws.{OfKind};
-ghost use Rattle.jump_report.specs.Report.{Answered, Parts, Told, VeneerTold, other_sense};
+ghost use Rattle.jump_report.specs.Report.{Answered, Told, VeneerTold, other_sense};
 
 use crate::report::{JumpReport, ReportError, VeneerReport};
 use isa::{InstructionSet, Role, check_patch};
 use std::alloc::{AllocError, Global};
 
-// The bytes with the displacement.
-fn patched_copy<S: InstructionSet>(
+// A use: bytes of a kind of the set.
+#[derive(Drop)]
+struct Use<'a, S: InstructionSet> {
     heap: Global,
-    set: &S,
+    set: &'a S,
     kind: u32,
-    bytes: &[u8],
-    displacement: i64,
-) -> Result<Vec<u8>, AllocError>
-    requires { Patchable (S.meaning set.now) kind bytes.now displacement }
-    ensures { IfOk result (λ v. v.items ≡ (S.meaning set.now).patched kind bytes.now displacement) }
-{
-    let mut patched = Vec::from_slice(heap, bytes)?;
-    set.patch(kind, &mut patched, displacement);
-    Ok(patched)
+    bytes: Vec<u8>,
+    ghost of_kind: { OfKind (S.meaning set.now) kind bytes.items },
 }
 
-// The bytes with the other sense.
-fn inverted_copy<S: InstructionSet>(
-    heap: Global,
-    set: &S,
-    kind: u32,
-    bytes: &[u8],
-) -> Result<Vec<u8>, AllocError>
-    requires { OfKind (S.meaning set.now) kind bytes.now }
-    ensures { IfOk result (λ v. v.items ≡ (S.meaning set.now).inverted kind bytes.now) }
-{
-    let mut inverted = Vec::from_slice(heap, bytes)?;
-    set.invert(kind, &mut inverted);
-    Ok(inverted)
-}
-
-// The bytes with the other sense, where their role is conditional.
-fn other_sense_of<S: InstructionSet>(
-    heap: Global,
-    set: &S,
-    kind: u32,
-    bytes: &[u8],
-    role: Role,
-) -> Result<Option<Vec<u8>>, AllocError>
-    requires { OfKind (S.meaning set.now) kind bytes.now }
-    ensures { IfOk result (λ o. option_map vec_items o ≡ other_sense (S.meaning set.now) kind bytes.now role) }
-{
-    match role {
-        Role::Conditional {
-            condition: _,
-            sense: _,
-        } => Ok(Some(inverted_copy(heap, set, kind, bytes)?)),
-        Role::Unconditional | Role::NoBranch => Ok(None),
+impl<'a, S: InstructionSet> Use<'a, S> {
+    // The bytes with a displacement, which can be written into them.
+    fn patched(
+        heap: Global,
+        set: &'a S,
+        kind: u32,
+        bytes: &[u8],
+        displacement: i64,
+    ) -> Result<Use<'a, S>, AllocError>
+        requires { Patchable (S.meaning set.now) kind bytes.now displacement }
+        ensures { IfOk result (λ u. (u.set.now ≡ set.now) × (u.kind ≡ kind) × (u.bytes.items ≡ (S.meaning set.now).patched kind bytes.now displacement)) }
+    {
+        let mut bytes = Vec::from_slice(heap, bytes)?;
+        set.patch(kind, &mut bytes, displacement);
+        Ok(Use {
+            heap,
+            set,
+            kind,
+            bytes,
+        })
     }
-}
 
-// The bytes of the kind's veneer, and the place and the kind of its own use.
-fn made_veneer<S: InstructionSet>(
-    heap: Global,
-    set: &S,
-    kind: u32,
-) -> Result<(Vec<u8>, u32, u32), AllocError>
-    requires kind_bound { kind < (S.meaning set.now).kinds }
-    requires has_veneer { (S.meaning set.now).supports kind ≡ true }
-    ensures { IfOk result (λ v. Parts ((S.meaning set.now).veneer kind) v.0.items v.1 v.2) }
-{
-    let mut code = vec![in heap; 0; set.veneer_size(kind) as usize]?;
-    let (place, own) = set.generate_veneer(kind, &mut code);
-    Ok((code, place, own))
-}
-
-// The kind's veneer, where it has one.
-fn veneer_of<S: InstructionSet>(
-    heap: Global,
-    set: &S,
-    kind: u32,
-) -> Result<Option<VeneerReport>, AllocError>
-    requires { kind < (S.meaning set.now).kinds }
-    ensures { IfOk result (λ o. VeneerTold (S.meaning set.now) kind o) }
-{
-    if !set.supports_veneer(kind) {
-        return Ok(None);
+    // The bytes with the other sense, where their role is conditional.
+    fn other_sense(&self, role: Role) -> Result<Option<Vec<u8>>, AllocError>
+        ensures { IfOk result (λ o. option_map vec_items o ≡ other_sense (S.meaning self.now.set.now) self.now.kind self.now.bytes.items role) }
+    {
+        let Role::Conditional { .. } = role else {
+            return Ok(None);
+        };
+        let mut inverted = Vec::from_slice(self.heap, &self.bytes)?;
+        self.set.invert(self.kind, &mut inverted);
+        Ok(Some(inverted))
     }
-    let (code, place, own) = made_veneer(heap, set, kind)?;
-    Ok(Some(VeneerReport { code, place, own }))
-}
 
-// What there is to tell of bytes of a kind.
-fn report_on<S: InstructionSet>(
-    heap: Global,
-    set: &S,
-    kind: u32,
-    patched: Vec<u8>,
-) -> Result<JumpReport, AllocError>
-    requires { OfKind (S.meaning set.now) kind patched.items }
-    ensures { IfOk result (λ j. Told (S.meaning set.now) kind patched.items j) }
-{
-    let reads = set.read(kind, &patched);
-    let role = set.role(kind, &patched);
-    let inverted = other_sense_of(heap, set, kind, &patched, role)?;
-    let found = set.find(&patched, 0);
-    let veneer = veneer_of(heap, set, kind)?;
-    Ok(JumpReport {
-        patched,
-        reads,
-        role,
-        inverted,
-        found,
-        veneer,
-    })
-}
+    // The kind's veneer, where it has one.
+    fn veneer(&self) -> Result<Option<VeneerReport>, AllocError>
+        ensures { IfOk result (λ o. VeneerTold (S.meaning self.now.set.now) self.now.kind o) }
+    {
+        if !self.set.supports_veneer(self.kind) {
+            return Ok(None);
+        }
+        let mut code = vec![in self.heap; 0; self.set.veneer_size(self.kind) as usize]?;
+        let (place, own) = self.set.generate_veneer(self.kind, &mut code);
+        Ok(Some(VeneerReport { code, place, own }))
+    }
 
-// Writes a displacement that can be written, and tells of the bytes that hold it.
-fn report_patched<S: InstructionSet>(
-    heap: Global,
-    set: &S,
-    kind: u32,
-    bytes: &[u8],
-    displacement: i64,
-) -> Result<JumpReport, AllocError>
-    requires { Patchable (S.meaning set.now) kind bytes.now displacement }
-    ensures { IfOk result (λ j. Told (S.meaning set.now) kind ((S.meaning set.now).patched kind bytes.now displacement) j) }
-{
-    let patched = patched_copy(heap, set, kind, bytes, displacement)?;
-    report_on(heap, set, kind, patched)
+    // What there is to tell of the bytes.
+    fn report(self) -> Result<JumpReport, AllocError>
+        ensures { IfOk result (λ j. Told (S.meaning self.entry.set.now) self.entry.kind self.entry.bytes.items j) }
+    {
+        let role = self.set.role(self.kind, &self.bytes);
+        let inverted = self.other_sense(role)?;
+        let veneer = self.veneer()?;
+        Ok(JumpReport {
+            reads: self.set.read(self.kind, &self.bytes),
+            role,
+            inverted,
+            found: self.set.find(&self.bytes, 0),
+            veneer,
+            patched: self.bytes,
+        })
+    }
 }
 
 /// Writes a displacement into the bytes of a use, and tells what the set makes of them then; or says why the set
@@ -143,5 +95,6 @@ pub fn set_jump<S: InstructionSet>(
     ensures { Answered (S.meaning set.now) kind bytes.now displacement result }
 {
     check_patch(set, kind, bytes, displacement)?;
-    Ok(report_patched(heap, set, kind, bytes, displacement)?)
+    let patched = Use::patched(heap, set, kind, bytes, displacement)?;
+    Ok(patched.report()?)
 }

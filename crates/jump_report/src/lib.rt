@@ -10,6 +10,7 @@
 mod jump;
 mod report;
 mod request;
+mod show;
 pub mod text;
 
 pub use jump::set_jump;

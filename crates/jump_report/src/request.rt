@@ -2,9 +2,9 @@
 ghost use Rattle.std.specs.Prelude.{◌≡◌};
 ghost use Rattle.jump_report.specs.Request.{Read, from_hex};
 
-use crate::text::{HexError, SetName, parse_hex};
+use crate::text::{HexError, NoSuchSet, SetName, parse_hex};
 use std::alloc::Global;
-use std::fmt;
+use thiserror::Error;
 
 /// What is asked of a set: a displacement in the bytes of a use.
 #[derive(Drop)]
@@ -16,12 +16,17 @@ pub struct Request {
 }
 
 /// Which of the words can't be read.
-#[derive(Clone, Copy, PartialEq, Eq, Debug)]
+#[derive(Clone, Copy, PartialEq, Eq, Debug, Error)]
 pub enum RequestError {
+    #[error("out of memory")]
     OutOfMemory,
+    #[error("{}", NoSuchSet)]
     NoSet,
+    #[error("the kind is no unsigned decimal number of 32 bits")]
     NoKind,
+    #[error("the bytes are no pairs of hexadecimal digits")]
     NoBytes,
+    #[error("the displacement is no signed decimal number of 64 bits")]
     NoDisplacement,
 }
 
@@ -36,21 +41,13 @@ impl Request {
     ) -> Result<Request, RequestError>
         ensures { Read set.now kind.now bytes.now displacement.now result }
     {
-        let Some(set) = SetName::of_word(set) else {
-            return Err(RequestError::NoSet);
-        };
-        let Ok(kind) = kind.parse::<u32>() else {
-            return Err(RequestError::NoKind);
-        };
-        let bytes = parse_hex(heap, bytes)?;
-        let Ok(displacement) = displacement.parse::<i64>() else {
-            return Err(RequestError::NoDisplacement);
-        };
         Ok(Request {
-            set,
-            kind,
-            bytes,
-            displacement,
+            set: set.parse().map_err(|_| RequestError::NoSet)?,
+            kind: kind.parse().map_err(|_| RequestError::NoKind)?,
+            bytes: parse_hex(heap, bytes)?,
+            displacement: displacement
+                .parse()
+                .map_err(|_| RequestError::NoDisplacement)?,
         })
     }
 }
@@ -63,18 +60,5 @@ impl From<HexError> for RequestError {
             HexError::OutOfMemory => RequestError::OutOfMemory,
             HexError::NotHex => RequestError::NoBytes,
         }
-    }
-}
-
-impl fmt::Display for RequestError {
-    fn fmt<W: fmt::Write>(&self, f: &mut fmt::Formatter<W>) -> fmt::Result {
-        f.write_str(match self {
-            RequestError::OutOfMemory => "out of memory",
-            RequestError::NoSet => "no such set; there are aarch64 and riscv",
-            RequestError::NoKind => "the kind is no unsigned decimal number of 32 bits",
-            RequestError::NoBytes => "the bytes are no pairs of hexadecimal digits",
-            RequestError::NoDisplacement =>
-                "the displacement is no signed decimal number of 64 bits",
-        })
     }
 }

@@ -24,12 +24,10 @@ fn judge_line(rt: &impl Print, heap: Global, tally: &mut Tally, line: &str) -> i
             return println!(rt; "{fault}: {line}");
         }
     };
-    match judge(heap, &vector) {
-        Ok(()) => tally.count(&vector, true)?,
-        Err(fault) => {
-            tally.count(&vector, false)?;
-            println!(rt; "{fault}: {line}")?;
-        }
+    let judged = judge(heap, &vector);
+    tally.count(&vector, judged.is_ok())?;
+    if let Err(fault) = judged {
+        println!(rt; "{fault}: {line}")?;
     }
     Ok(())
 }

@@ -10,6 +10,7 @@ use jump_report::{JumpReport, ReportError, Request, RequestError, set_jump};
 use riscv::RiscV;
 use std::alloc::{AllocError, Global};
 use std::fmt;
+use thiserror::Error;
 
 /// The bytes with displacement 0 and a displacement, and the bytes that hold it.
 #[derive(Drop)]
@@ -19,21 +20,42 @@ pub struct Vector {
 }
 
 /// Why an encoding is not equal.
-#[derive(Drop)]
+#[derive(Debug, Drop, Error)]
 pub enum Fault {
+    #[error("out of memory")]
     OutOfMemory,
-    /// the line has too few words
+    #[error("can't be read, too few words")]
     TooShort,
     /// one of the first four words can't be read
+    #[error("can't be read, {0}")]
     Unread(RequestError),
-    /// the patched bytes can't be read
+    #[error("can't be read, the patched bytes are no pairs of hexadecimal digits")]
     NoBytes,
     /// the displacement can't be written
+    #[error("turned away, {}", Reason(*.0))]
     TurnedAway(PatchRefusal),
     /// the patch gives other bytes
+    #[error("the patch gives {}", Hex(.0))]
     Gives(Vec<u8>),
     /// the patched bytes read another displacement
+    #[error("the patched bytes read {0}")]
     Reads(i64),
+}
+
+// Shows why a set turns a displacement away: only `isa` may write an impl of `Display` for its types.
+#[derive(Clone, Copy)]
+struct Reason(PatchRefusal);
+
+impl fmt::Display for Reason {
+    fn fmt<W: fmt::Write>(&self, f: &mut fmt::Formatter<W>) -> fmt::Result {
+        f.write_str(match self.0 {
+            PatchRefusal::NoSuchKind => "no such kind",
+            PatchRefusal::WrongLength => "wrong length",
+            PatchRefusal::NotZero => "the bytes do not read 0",
+            PatchRefusal::NotAligned => "no multiple of the alignment",
+            PatchRefusal::OutOfReach => "out of range",
+        })
+    }
 }
 
 impl From<AllocError> for Fault {
@@ -119,31 +141,5 @@ pub fn judge(heap: Global, vector: &Vector) -> Result<(), Fault>
     match vector.request.set {
         SetName::AArch64 => judge_by(heap, &AArch64, vector),
         SetName::RiscV => judge_by(heap, &RiscV, vector),
-    }
-}
-
-fn reason(refusal: PatchRefusal) -> &'static str {
-    match refusal {
-        PatchRefusal::NoSuchKind => "no such kind",
-        PatchRefusal::WrongLength => "wrong length",
-        PatchRefusal::NotZero => "the bytes do not read 0",
-        PatchRefusal::NotAligned => "no multiple of the alignment",
-        PatchRefusal::OutOfReach => "out of range",
-    }
-}
-
-impl fmt::Display for Fault {
-    fn fmt<W: fmt::Write>(&self, f: &mut fmt::Formatter<W>) -> fmt::Result {
-        match self {
-            Fault::OutOfMemory => f.write_str("out of memory"),
-            Fault::TooShort => f.write_str("can't be read, too few words"),
-            Fault::Unread(error) => write!(f, "can't be read, {error}"),
-            Fault::NoBytes => f.write_str(
-                "can't be read, the patched bytes are no pairs of hexadecimal digits",
-            ),
-            Fault::TurnedAway(refusal) => write!(f, "turned away, {}", reason(*refusal)),
-            Fault::Gives(bytes) => write!(f, "the patch gives {}", Hex(bytes)),
-            Fault::Reads(displacement) => write!(f, "the patched bytes read {displacement}"),
-        }
     }
 }

@@ -1,13 +1,12 @@
-// Reports and errors as text.
-use crate::line::LineError;
+// Reports as text.
+use crate::report::{JumpReport, VeneerReport};
+use crate::text::Hex;
 use isa::{Condition, Family, Found, Role};
-use jump_report::text::Hex;
-use jump_report::{JumpReport, VeneerReport};
 use std::fmt;
 
-/// Shows what is of another crate.
+// Shows what is of `isa`: only a crate itself may write an impl of `Display` for its types.
 #[derive(Clone, Copy)]
-pub struct Shown<T>(pub T);
+struct Shown<T>(T);
 
 // The test has its number in the set; of a register the family says what is tested.
 impl fmt::Display for Shown<Condition> {
@@ -61,63 +60,31 @@ impl fmt::Display for Shown<Found> {
     }
 }
 
-impl fmt::Display for Shown<&VeneerReport> {
+impl fmt::Display for VeneerReport {
     fn fmt<W: fmt::Write>(&self, f: &mut fmt::Formatter<W>) -> fmt::Result {
-        let own = self.0.own;
-        let place = self.0.place;
+        let VeneerReport { code, place, own } = self;
         write!(
             f,
             "veneer {}, with its own use of kind {own} at {place}",
-            Hex(&self.0.code)
+            Hex(code)
         )
     }
 }
 
 // One line for each part, indented.
-impl fmt::Display for Shown<&JumpReport> {
+impl fmt::Display for JumpReport {
     fn fmt<W: fmt::Write>(&self, f: &mut fmt::Formatter<W>) -> fmt::Result {
-        let report = self.0;
-        let reads = report.reads;
-        writeln!(f, "  patched {}", Hex(&report.patched))?;
+        let reads = self.reads;
+        writeln!(f, "  patched {}", Hex(&self.patched))?;
         writeln!(f, "  reads {reads}")?;
-        writeln!(f, "  role {}", Shown(report.role))?;
-        if let Some(inverted) = &report.inverted {
+        writeln!(f, "  role {}", Shown(self.role))?;
+        if let Some(inverted) = &self.inverted {
             writeln!(f, "  inverted {}", Hex(inverted))?;
         }
-        writeln!(f, "  finds {}", Shown(report.found))?;
-        match &report.veneer {
-            Some(veneer) => write!(f, "  {}", Shown(veneer)),
+        writeln!(f, "  finds {}", Shown(self.found))?;
+        match &self.veneer {
+            Some(veneer) => write!(f, "  {veneer}"),
             None => f.write_str("  no veneer"),
-        }
-    }
-}
-
-impl fmt::Display for LineError {
-    fn fmt<W: fmt::Write>(&self, f: &mut fmt::Formatter<W>) -> fmt::Result {
-        match *self {
-            LineError::OutOfMemory => f.write_str("out of memory"),
-            LineError::Words(count) if count < 4 => write!(
-                f,
-                "too few words, {count} in place of 4"
-            ),
-            LineError::Words(count) => write!(f, "too many words, {count} in place of 4"),
-            LineError::Word(error) => write!(f, "{error}"),
-            LineError::NoSuchKind { kinds } => write!(
-                f,
-                "no such kind; the set has {kinds}, numbered from 0"
-            ),
-            LineError::WrongLength { wanted } => write!(
-                f,
-                "wrong length; the kind wants {wanted} bytes"
-            ),
-            LineError::NotZero => f.write_str("the kind adds, and the bytes do not read 0"),
-            LineError::NotAligned { align } => write!(
-                f,
-                "the displacement is no multiple of {align}"
-            ),
-            LineError::OutOfReach { back, ahead } => {
-                write!(f, "out of range; the kind reaches from -{back} to {ahead}")
-            }
         }
     }
 }
