@@ -7,6 +7,7 @@ ghost use Rattle.tables.specs.View.{view};
 use crate::attempts::apply_rule;
 use crate::rules::{Outcome, Rule};
 use model::Refusal;
+use slices::labels::count_standing;
 use tables::tables::Tables;
 
 /// labels at the start of a branch that simplification takes
@@ -17,22 +18,18 @@ fn run_rounds(tables: &mut Tables)
     ensures { view tables.new ≡ (all_rounds (view tables.old)).1 }
 {
     'rounds: loop {
-        if tables.branches.rows.len() == 0 {
+        if tables.branches.rows.is_empty() {
             break 'rounds;
         }
         let branch = tables.last_branch_of();
         if branch.end as usize != tables.code.rows.len() {
             break 'rounds;
         }
-        let mut stood: usize = 0;
-        for label in tables.labels.rows.iter() {
-            if label.offset == branch.start {
-                stood += 1;
-                if stood > MAX_LABELS_AT_BRANCH {
-                    break 'rounds;
-                }
-            }
+        let stood = count_standing(tables.labels.rows.as_slice(), branch.start);
+        if stood > MAX_LABELS_AT_BRANCH {
+            break 'rounds;
         }
+        // A rule of the project: this labelled loop is left, and begun anew, from inside a loop nested in it.
         for rule in [
             Rule::CutToNext,
             Rule::Redirect,
