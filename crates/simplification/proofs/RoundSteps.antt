@@ -5,7 +5,7 @@ use Rattle.std.proofs.lemmas.Bool.{lt-ltb, eq-eqb, ne_eqb, le-leb, lt-leb, and_f
 use Rattle.model.specs.declared.rows.Branch.{Branch}
 use Rattle.model.specs.declared.rows.Label.{Label}
 use Rattle.model.specs.Labels.{standing}
-use Rattle.model.specs.State.{State, unknown, cur_offset}
+use Rattle.model.specs.State.{State, cur_offset}
 use Rattle.model.specs.Simplify.{last_branch, takes_branch, round, rounds}
 use Rattle.simplification.specs.declared.rules.Rule.{Rule}
 use Rattle.simplification.specs.declared.rules.Rule.TheVariants.{CutToNext}
@@ -75,7 +75,7 @@ module _ (r : Rule) (s v t : State) (same : v ≡ s) where
   pub stopped_same : (Stopped, t) ≡ apply r v → t ≡ s
   stopped_same e = ap (λ (p : Outcome × State). p.1) e ∙ (apply_stopped r v (sym (ap (λ (p : Outcome × State). p.0) e)) ∙ same)
 
-  pub applied_falls : (Applied, t) ≡ apply r v → 0 < length s.branches → cur_offset s < unknown → (last_branch s).start < unknown → fuel t < fuel s
-  applied_falls e h b l =
+  pub applied_falls : (Applied, t) ≡ apply r v → 0 < length s.branches → fuel t < fuel s
+  applied_falls e h =
       let k : (Applied, t) ≡ apply r s = e ∙ ap (apply r) same in
-      subst (λ (x : State). fuel x < fuel s) (sym (ap (λ (p : Outcome × State). p.1) k)) (apply_falls r s h b l (sym (ap (λ (p : Outcome × State). p.0) k)))
+      subst (λ (x : State). fuel x < fuel s) (sym (ap (λ (p : Outcome × State). p.1) k)) (apply_falls r s h (sym (ap (λ (p : Outcome × State). p.0) k)))

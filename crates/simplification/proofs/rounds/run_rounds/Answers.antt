@@ -1,4 +1,4 @@
-use Rattle.std.proofs.Common.{◌≡◌, ◌+◌, ◌-◌, ◌<◌, length, get_or, drop, sym, refl, ap, ◌∙◌, arith}
+use Rattle.std.proofs.Common.{◌≡◌, ◌+◌, ◌<◌, length, get_or, drop, sym, refl, ap, ◌∙◌, arith}
 use Rattle.std.proofs.lemmas.List.{at_drop_all}
 use Rattle.std.proofs.lemmas.Bool.{eqb-true, eqb-false}
 use Rattle.model.specs.declared.rows.Branch.{Branch}
@@ -42,16 +42,8 @@ falls : (c : goal.In-Applied) → fuel (view c.apply_rule.new.tables) < fuel (vi
 falls c =
     let b = c.rounds.tables in
     let s = view b in
-    let rows = b.branches.rows.ok.0 in
-    let bytes = b.code.rows.ok.0 in
-    let last = length b.branches.rows.items - 1 in
-    let some : 0 < length b.branches.rows.items = omega (arith, eqb-false _ 0 (sym c.if-is_empty.ensures), rows) in
-    let here : last < length b.branches.rows.items = omega (arith, some) in
-    let begun = b.begun last here in
-    let within = b.within last here in
-    let room = b.code.short in
+    let some : 0 < length b.branches.rows.items = omega (arith, eqb-false _ 0 (sym c.if-is_empty.ensures), b.branches.rows.ok.0) in
     applied_falls (get_or all_rules c.loop-rule.rule-index CutToNext) s (view c.loop-rule.tables) (view c.apply_rule.new.tables) c.loop-rule.invariant.1 c.in-Applied.ensures some
-    (omega (arith, room, bytes)) (omega (arith, room, begun, within))
 
 pub rounds-smaller : goal.rounds-smaller
 rounds-smaller c = falls c
