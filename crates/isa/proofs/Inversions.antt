@@ -1,8 +1,8 @@
 -- Turning conditionals round, for every set of words.
-use Rattle.std.proofs.Common.{◌≡◌, ℕ, ◌+◌, ◌<◌, ◌≤◌, ◌&&◌, Bool, not, T, eqb, leb, List, [], ◌∷◌, length, sym, ap, ◌∙◌, arith, lit<, leb→le}
+use Rattle.std.proofs.Common.{◌≡◌, ℕ, ◌+◌, ◌<◌, Bool, not, T, eqb, leb, List, ◌∷◌, length, sym, ap, ◌∙◌, arith, lit<, leb→le}
 use Rattle.bits.specs.declared.pieces.Piece.{Piece}
-use Rattle.bits.specs.Fields.{get, put, flip, piece, scatter, clear, laid}
-use Rattle.bits.specs.Formats.{Format, pieces, reading, clearing, clear_field}
+use Rattle.bits.specs.Fields.{get, piece, scatter, clear, laid}
+use Rattle.bits.specs.Formats.{pieces}
 use Rattle.bits.specs.Words.{word, to_bytes, Octets}
 use Rattle.bits.proofs.LittleEndian.{word_fits, word-to_bytes, length-to_bytes, octets_to_bytes}
 use Rattle.bits.proofs.OneField.{put-fits}

@@ -4,12 +4,11 @@ use Rattle.std.proofs.Common.{sym, inr, lit<, lit≤}
 use Rattle.std.proofs.lemmas.Bool.{false≢true}
 use Rattle.bits.specs.Fields.{get}
 use Rattle.bits.specs.Words.{word, signed}
-use Rattle.bits.proofs.LittleEndian.{length-to_bytes, octets_to_bytes, octets}
+use Rattle.bits.proofs.LittleEndian.{octets}
 use Rattle.isa.specs.Laws.{Lawful, VeneerBounds}
 use Rattle.isa.proofs.Inversions.{inverted_long, inverted_octets, inverted_role, inverted_reads, inverted_rest, rest_outside}
 use Rattle.isa.proofs.Formatted.{patched_long, patched_octets, reads_patched, outside_patched, field_only}
-use Rattle.isa.specs.Words.{turned}
-use Rattle.riscv.specs.Meaning.{riscv, riscv_words}
+use Rattle.riscv.specs.Meaning.{riscv}
 use Rattle.riscv.specs.Finds.{finds_branch, finds_veneer}
 use Rattle.riscv.specs.Inversions.{conditionals}
 use Rattle.riscv.specs.KindTables.{below_2, formatted, bounds}
