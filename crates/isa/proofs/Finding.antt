@@ -1,12 +1,15 @@
 -- A branch that begins at an offset of some code is found, where no other kind takes its bytes for a branch.
-use Rattle.std.proofs.Common.{◌≡◌, ℕ, Bool, true, false, ◌&&◌, ◌||◌, T, eqb, leb, ◌⊎◌, List, [], ◌∷◌, ◌++◌, length, take, drop, ℤ, sym, refl, ap, ◌∙◌, inl, inr, arith, le→leb, eqb→eq, length-append, take_at}
+use Rattle.std.proofs.Common.{◌≡◌, ℕ, Bool, true, false, ◌&&◌, ◌||◌, T, eqb, leb, ◌⊎◌, List, [], ◌∷◌, ◌++◌, length, take, drop, ℤ, pos, ◌+ℤ◌, sym, refl, ap, subst, ◌∙◌, append-nil, inl, inr, arith, le→leb, eqb→eq, length-append, take_at}
 use lib.Seq.{drop-append_seam}
+use Rattle.std.proofs.lemmas.Int.{ints}
 use Rattle.std.proofs.lemmas.Bool.{and_parts, cases_Bool, false≢true, cond-true, cond-false}
 use Rattle.isa.specs.declared.jumps.Found.{Found}
 use Rattle.isa.specs.declared.jumps.Found.TheVariants.{Branch}
 use Rattle.isa.specs.declared.jumps.Role.{Role}
+use Rattle.isa.specs.declared.jumps.Role.TheVariants.{Unconditional}
 use Rattle.isa.specs.Finding.{is_branch_at, branch_at, branch_among}
 use Rattle.isa.specs.Isa.{Isa}
+use Rattle.isa.specs.Laws.{Leads}
 use Rattle.isa.specs.Roles.{is_branch}
 
 abbrev pub holds : ℕ → List ℕ → Bool
@@ -59,3 +62,15 @@ module _ (size : ℕ → ℕ) (role : ℕ → List ℕ → Role) (reads : ℕ �
 pub one_size : (i : Isa) (n j : ℕ) (b after : List ℕ) → length b ≡ n → is_branch_at n (i.role j) (b ++ after) ≡ true → is_branch (i.role j b) ≡ true
 one_size i n j b after l h =
     ap (λ (c : List ℕ). is_branch (i.role j c)) (sym (take_at b after n l)) ∙ (and_parts (leb n (length (b ++ after))) (is_branch (i.role j (take n (b ++ after)))) h).1
+
+from_zero : (d : ℤ) → d ≡ pos 0 +ℤ d
+from_zero d = omega (arith, ints)
+
+-- a word that always jumps, patched, leads to its target
+pub jump_leads : (i : Isa) (k : ℕ) (b : List ℕ) (n : ℕ) (d : ℤ) (before after : List ℕ)
+    → i.find (before ++ (i.patched k b d ++ after)) (length before) ≡ Branch (i.role k b) n d → i.role k b ≡ Unconditional
+    → Leads (i.find (before ++ ((i.patched k b d ++ []) ++ after)) (length before)) (pos 0 +ℤ d)
+jump_leads i k b n d before after found j =
+    let e : i.find (before ++ ((i.patched k b d ++ []) ++ after)) (length before) ≡ Branch Unconditional n d =
+    ap (λ (c : List ℕ). i.find (before ++ (c ++ after)) (length before)) (append-nil (i.patched k b d)) ∙ found ∙ ap (λ (r : Role). Branch r n d) j in
+    subst (λ (f : Found). Leads f (pos 0 +ℤ d)) (sym e) (refl, from_zero d)
