@@ -40,7 +40,7 @@ struct Numbered(Refusal);
 
 impl fmt::Display for Numbered {
     fn fmt<W: fmt::Write>(&self, f: &mut fmt::Formatter<W>) -> fmt::Result {
-        let number = self.0.number();
+        let number = u32::from(self.0);
         match self.0 {
             Refusal::UnboundLabel(label) => write!(f, "{number} {label}"),
             _ => write!(f, "{number}"),

@@ -98,7 +98,7 @@ impl From<TryFromIntError> for Failure {
 
 /// The number of a refusal.
 pub fn number(refusal: Refusal) -> u32 {
-    refusal.number()
+    refusal.into()
 }
 
 impl From<Failure> for u32 {
