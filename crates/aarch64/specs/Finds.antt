@@ -1,9 +1,8 @@
 -- Each patched branch and each veneer is found where it begins.
 use Rattle.std.specs.Prelude.{◌≡◌, ℕ, ◌<◌, true, T, List, [], ◌∷◌, ◌++◌, length, take, drop, ℤ, pos, ◌+ℤ◌, Some, Option, is_some, nat_le, refl}
-use Rattle.std.proofs.Common.{sym, ap, subst, ◌∙◌, append-nil, arith, of_z}
+use Rattle.std.proofs.Common.{sym, ap, subst, ◌∙◌, arith, of_z}
 use Rattle.std.proofs.Math.Seq.{drop-append_seam}
 use Rattle.std.specs.Int.{w32}
-use Rattle.std.proofs.lemmas.Int.{ints}
 use Rattle.std.proofs.lemmas.Bool.Decides.{nat_tests}
 use Rattle.std.proofs.lemmas.Bool.{false≢true}
 use Rattle.std.specs.Option.{option_or}
@@ -16,7 +15,7 @@ use Rattle.isa.specs.declared.jumps.Role.{Role}
 use Rattle.isa.specs.declared.jumps.Role.TheVariants.{Unconditional}
 use Rattle.isa.specs.Isa.{Patchable, bytes_at, patched_at}
 use Rattle.isa.specs.Laws.{Leads}
-use Rattle.isa.proofs.Finding.{holds, one_size}
+use Rattle.isa.proofs.Finding.{holds, one_size, jump_leads}
 use Rattle.isa.proofs.Formatted.{reads_patched, finds_branch as formatted_branch}
 use Rattle.aarch64.specs.Fields.{format}
 use Rattle.aarch64.specs.Meaning.{aarch64, jump_at_head, long_jump, long_veneer, short_veneer}
@@ -34,9 +33,6 @@ finds_branch =
     formatted_branch formatted (0 ∷ 1 ∷ 2 ∷ []) (λ code at j e. ap (λ (o : Option Jump). option_or o (long_jump (drop at code))) e) (λ k b c p q. role_outside k p.kind b c) (λ k b p. branch_kinds k p.kind b)
     (λ k j b after p t h. role_once j k b (one_size aarch64 4 j b after p.long h) t)
 
-from_zero : (d : ℤ) → d ≡ pos 0 +ℤ d
-from_zero d = omega (arith, ints)
-
 jump_word : aarch64.role 2 short_veneer.code ≡ Some Unconditional
 unfolding get word
 jump_word = refl
@@ -45,11 +41,7 @@ jump_word = refl
 finds_short : (d : ℤ) (before after : List ℕ) → Patchable aarch64 2 (bytes_at aarch64 2 short_veneer.code 0) d
     → Leads (aarch64.find (before ++ (patched_at aarch64 2 short_veneer.code 0 d ++ after)) (length before)) (pos 0 +ℤ d)
 finds_short d before after p =
-    let q = aarch64.patched 2 short_veneer.code d in
-    let e : aarch64.find (before ++ ((q ++ []) ++ after)) (length before) ≡ Some (Branch Unconditional 4 d) =
-    ap (λ (c : List ℕ). aarch64.find (before ++ (c ++ after)) (length before)) (append-nil q)
-    ∙ finds_branch 2 short_veneer.code d before after Unconditional p jump_word in
-    subst (λ (f : Option Jump). Leads f (pos 0 +ℤ d)) (sym e) (refl, from_zero d)
+    jump_leads aarch64 2 short_veneer.code 4 d before after (finds_branch 2 short_veneer.code d before after Unconditional p jump_word)
 
 abbrev long_head : List ℕ
 long_head = take 16 long_veneer.code

@@ -1,11 +1,13 @@
 // Calls and answers as values, so that a test is a list of them.
+ghost use Rattle.std.specs.Iterator.{IsFinite};
+
 use aarch64::AArch64;
 use buffer::buffer::MachBuffer;
 use buffer::regions::OpenPatchRegion;
 use isa::InstructionSet;
 use model::Refusal;
-use model::rows::Trap;
 use riscv::RiscV;
+use std::num::TryFromIntError;
 use std::process::Abort;
 use std::test::Fail;
 
@@ -74,11 +76,45 @@ pub type Answer = Result<u32, u32>;
 /// Where an unbound label is.
 pub const UNBOUND: u32 = 4294967295;
 
+// Why a call or a question has no number for an answer.
+#[derive(Clone, Copy)]
+enum Failure {
+    Refused(Refusal),
+    /// no buffer answers so
+    NoAnswer,
+}
+
+impl From<Refusal> for Failure {
+    fn from(refusal: Refusal) -> Failure {
+        Failure::Refused(refusal)
+    }
+}
+
+impl From<TryFromIntError> for Failure {
+    fn from(_error: TryFromIntError) -> Failure {
+        Failure::NoAnswer
+    }
+}
+
+/// The number of a refusal.
+pub fn number(refusal: Refusal) -> u32 {
+    refusal.number()
+}
+
+impl From<Failure> for u32 {
+    fn from(failure: Failure) -> u32 {
+        match failure {
+            Failure::Refused(refusal) => number(refusal),
+            Failure::NoAnswer => 0,
+        }
+    }
+}
+
 static BYTES: [u8; 65537] = [9; 65537];
 
-// So many bytes.
-fn some_bytes(len: u32) -> &'static [u8] {
-    &BYTES[0..(len as usize).min(65537)]
+// The bytes in front, so many of them, or all where there are fewer.
+fn front(bytes: &[u8], len: u32) -> &[u8] {
+    &bytes[..bytes.len().min(len as usize)]
 }
 
 // A word with zeros after it.
@@ -86,236 +122,174 @@ fn in_eight(word: u32) -> [u8; 8] {
     u64::from(word).to_le_bytes()
 }
 
-fn numbered(r: Result<u32, Refusal>) -> Answer {
-    match r {
-        Ok(n) => Ok(n),
-        Err(refusal) => Err(refusal.number()),
-    }
+fn nth<T: Copy>(rows: &[T], n: u32) -> Result<T, Failure> {
+    rows.get(n as usize).copied().ok_or(Failure::NoAnswer)
 }
 
-fn plain(r: Result<(), Refusal>) -> Answer {
-    match r {
-        Ok(()) => Ok(0),
-        Err(refusal) => Err(refusal.number()),
-    }
-}
-
-fn count(n: usize) -> Answer {
-    match u32::try_from(n) {
-        Ok(count) => Ok(count),
-        Err(_) => Err(0),
-    }
-}
-
-fn trap_at(traps: &[Trap], n: u32) -> Answer {
-    match traps.get(n as usize) {
-        Some(trap) => Ok(trap.offset),
-        None => Err(0),
-    }
-}
-
-fn trap_code(traps: &[Trap], n: u32) -> Answer {
-    match traps.get(n as usize) {
-        Some(trap) => Ok(trap.code),
-        None => Err(0),
-    }
-}
-
-fn byte_at(code: &[u8], at: u32) -> Answer {
-    match code.get(at as usize) {
-        Some(byte) => Ok(u32::from(*byte)),
-        None => Err(0),
-    }
-}
-
-fn word_at(code: &[u8], at: u32) -> Answer {
+fn word_at(code: &[u8], at: u32) -> Result<u32, Failure> {
     match code.get(at as usize..at as usize + 4) {
         Some([a, b, c, d]) => Ok(u32::from_le_bytes([*a, *b, *c, *d])),
-        _ => Err(0),
+        _ => Err(Failure::NoAnswer),
     }
 }
 
 // Asks a question.
-fn ask<S: InstructionSet + Drop>(buffer: &MachBuffer<S>, call: Call) -> Answer {
-    match call {
-        Call::Offset => Ok(buffer.cur_offset()),
-        Call::Resolve(label) => numbered(buffer.resolve_label_offset(label)),
-        Call::Needed(distance) => Ok(if buffer.island_needed(distance) { 1 } else { 0 }),
-        Call::Waiting => Ok(buffer.waiting_len()),
-        Call::Labels => Ok(buffer.labels_len()),
-        Call::Traps => count(buffer.traps().len()),
-        Call::TrapAt(n) => trap_at(buffer.traps(), n),
-        Call::TrapCode(n) => trap_code(buffer.traps(), n),
-        Call::Placed => count(buffer.placed_constants().len()),
-        Call::Byte(at) => byte_at(buffer.code(), at),
-        Call::Word(at) => word_at(buffer.code(), at),
-        _ => Err(0),
-    }
+fn ask<S: InstructionSet + Drop>(buffer: &MachBuffer<S>, call: Call) -> Result<u32, Failure> {
+    Ok(match call {
+        Call::Offset => buffer.cur_offset(),
+        Call::Resolve(label) => buffer.resolve_label_offset(label)?,
+        Call::Needed(distance) => u32::from(buffer.island_needed(distance)),
+        Call::Waiting => buffer.waiting_len(),
+        Call::Labels => buffer.labels_len(),
+        Call::Traps => u32::try_from(buffer.traps().len())?,
+        Call::TrapAt(n) => nth(buffer.traps(), n)?.offset,
+        Call::TrapCode(n) => nth(buffer.traps(), n)?.code,
+        Call::Placed => u32::try_from(buffer.placed_constants().len())?,
+        Call::Byte(at) => u32::from(nth(buffer.code(), at)?),
+        Call::Word(at) => word_at(buffer.code(), at)?,
+        _ => return Err(Failure::NoAnswer),
+    })
 }
 
-fn bind_each<S: InstructionSet + Drop>(buffer: &mut MachBuffer<S>, first: u32, n: u32) -> Answer {
-    let mut label = first;
-    for _turn in 0..n {
-        match buffer.bind_label(label, false) {
-            Ok(()) => {}
-            Err(refusal) => return Err(refusal.number()),
+// Adds bytes that refer to a label.
+fn refer<S: InstructionSet + Drop>(buffer: &mut MachBuffer<S>, call: Call) -> Result<u32, Failure> {
+    Ok(match call {
+        Call::Use(label, kind, word) => {
+            buffer.use_label_at_offset(label, kind, &word.to_le_bytes())?
         }
-        label = label.wrapping_add(1);
+        Call::Jump(label, kind, word) => {
+            buffer.add_uncond_branch(label, kind, &word.to_le_bytes())?
+        }
+        Call::Branch(label, kind, word, inverted) => buffer.add_cond_branch(
+            label,
+            kind,
+            &word.to_le_bytes(),
+            &inverted.to_le_bytes(),
+        )?,
+        Call::UseOf(len, label, kind, word) => {
+            buffer.use_label_at_offset(label, kind, front(&in_eight(word), len))?
+        }
+        Call::JumpOf(len, label, kind, word) => {
+            buffer.add_uncond_branch(label, kind, front(&in_eight(word), len))?
+        }
+        Call::BranchOf(len, other, label, kind, word, inverted) => buffer.add_cond_branch(
+            label,
+            kind,
+            front(&in_eight(word), len),
+            front(&in_eight(inverted), other),
+        )?,
+        _ => ask(buffer, call)?,
+    })
+}
+
+fn bind<S: InstructionSet + Drop>(
+    buffer: &mut MachBuffer<S>,
+    label: u32,
+    skip: bool,
+) -> Result<u32, Failure> {
+    buffer.bind_label(label, skip)?;
+    Ok(0)
+}
+
+fn bind_each<S: InstructionSet + Drop>(
+    buffer: &mut MachBuffer<S>,
+    first: u32,
+    n: u32,
+) -> Result<u32, Failure> {
+    for label in first..first.saturating_add(n) {
+        buffer.bind_label(label, false)?;
     }
     Ok(0)
+}
+
+// Makes a call that opens and closes no region.
+fn make<S: InstructionSet + Drop>(buffer: &mut MachBuffer<S>, call: Call) -> Result<u32, Failure> {
+    Ok(match call {
+        Call::Label => buffer.get_label()?,
+        Call::Bind(label) => bind(buffer, label, false)?,
+        Call::BindSkip(label) => bind(buffer, label, true)?,
+        Call::BindEach(first, n) => bind_each(buffer, first, n)?,
+        Call::Put(trap, len) => buffer.put_data(trap, front(&BYTES, len))?,
+        Call::Align(n) => {
+            buffer.align_to(n)?;
+            0
+        }
+        Call::Defer(trap) => buffer.defer_trap(trap)?,
+        Call::Register(size, align) => buffer.register_constant(size, align)?,
+        Call::Constant(number) => buffer.get_label_for_constant(number)?,
+        Call::Simplify => {
+            buffer.optimize_branches(false)?;
+            0
+        }
+        Call::SimplifySkip => {
+            buffer.optimize_branches(true)?;
+            0
+        }
+        _ => refer(buffer, call)?,
+    })
+}
+
+// Makes calls, of which each must be answered by so much more than the one before. The answer is the last.
+fn rising<S: InstructionSet + Drop, I: Iterator<Item = Call> + Drop>(
+    buffer: &mut MachBuffer<S>,
+    calls: I,
+    before: u32,
+    stride: u32,
+) -> Result<u32, Failure>
+    requires { I.can_next calls × IsFinite (I.remaining calls) }
+{
+    let mut last = before;
+    for call in calls {
+        let answer = make(buffer, call)?;
+        if answer != last.wrapping_add(stride) {
+            return Err(Failure::NoAnswer);
+        }
+        last = answer;
+    }
+    Ok(last)
 }
 
 fn request_each<S: InstructionSet + Drop>(
     buffer: &mut MachBuffer<S>,
     first: u32,
     n: u32,
-) -> Answer {
-    let mut last = buffer.get_label_for_constant(first);
-    for turn in 1..n {
-        let label = buffer.get_label_for_constant(first.wrapping_add(turn));
-        match (last, label) {
-            (Ok(a), Ok(b)) => {
-                if a.wrapping_add(1) != b {
-                    return Err(0);
-                }
-            }
-            _ => return numbered(label),
-        }
-        last = label;
-    }
-    numbered(last)
+) -> Result<u32, Failure> {
+    let label = buffer.get_label_for_constant(first)?;
+    let others = first.saturating_add(1)..first.saturating_add(n);
+    rising(buffer, others.map(Call::Constant), label, 1)
 }
 
-fn branch_of<S: InstructionSet + Drop>(
+// Keeps a token. One that was kept before is taken apart.
+fn keep(token: &mut Option<OpenPatchRegion>, region: OpenPatchRegion) {
+    match token.replace(region) {
+        None => {}
+        Some(OpenPatchRegion { number: _ }) => {}
+    }
+}
+
+fn open<S: InstructionSet + Drop>(
     buffer: &mut MachBuffer<S>,
-    label: u32,
-    kind: u32,
-    bytes: &[u8],
-    inverted: &[u8],
-) -> Answer {
-    numbered(buffer.add_cond_branch(label, kind, bytes, inverted))
+    token: &mut Option<OpenPatchRegion>,
+) -> Result<u32, Failure> {
+    let region = buffer.start_patchable()?;
+    let number = region.number;
+    keep(token, region);
+    Ok(number)
 }
 
-// Adds bytes that refer to a label.
-fn refer<S: InstructionSet + Drop>(buffer: &mut MachBuffer<S>, call: Call) -> Answer {
-    match call {
-        Call::Use(label, kind, word) => numbered(buffer.use_label_at_offset(
-            label,
-            kind,
-            &word.to_le_bytes(),
-        )),
-        Call::Jump(label, kind, word) => numbered(buffer.add_uncond_branch(
-            label,
-            kind,
-            &word.to_le_bytes(),
-        )),
-        Call::Branch(label, kind, word, inverted) => {
-            branch_of(
-                buffer,
-                label,
-                kind,
-                &word.to_le_bytes(),
-                &inverted.to_le_bytes(),
-            )
-        }
-        Call::UseOf(len, label, kind, word) => {
-            numbered(buffer.use_label_at_offset(
-                label,
-                kind,
-                &in_eight(word)[0..(len as usize).min(8)],
-            ))
-        }
-        Call::JumpOf(len, label, kind, word) => {
-            numbered(buffer.add_uncond_branch(
-                label,
-                kind,
-                &in_eight(word)[0..(len as usize).min(8)],
-            ))
-        }
-        Call::BranchOf(len, other, label, kind, word, inverted) => {
-            branch_of(
-                buffer,
-                label,
-                kind,
-                &in_eight(word)[0..(len as usize).min(8)],
-                &in_eight(inverted)[0..(other as usize).min(8)],
-            )
-        }
-        _ => ask(buffer, call),
-    }
-}
-
-// Makes a call that opens and closes no region.
-fn make<S: InstructionSet + Drop>(buffer: &mut MachBuffer<S>, call: Call) -> Answer {
-    match call {
-        Call::Label => numbered(buffer.get_label()),
-        Call::Bind(label) => plain(buffer.bind_label(label, false)),
-        Call::BindSkip(label) => plain(buffer.bind_label(label, true)),
-        Call::BindEach(first, n) => bind_each(buffer, first, n),
-        Call::Put(trap, len) => numbered(buffer.put_data(trap, some_bytes(len))),
-        Call::Align(n) => plain(buffer.align_to(n)),
-        Call::Defer(trap) => numbered(buffer.defer_trap(trap)),
-        Call::Register(size, align) => numbered(buffer.register_constant(size, align)),
-        Call::Constant(number) => numbered(buffer.get_label_for_constant(number)),
-        Call::ConstantEach(first, n) => request_each(buffer, first, n),
-        Call::Simplify => plain(buffer.optimize_branches(false)),
-        Call::SimplifySkip => plain(buffer.optimize_branches(true)),
-        _ => refer(buffer, call),
-    }
-}
-
-// Makes a call so many times. The answer is the last, where each is so much greater than the one before.
-fn again<S: InstructionSet + Drop>(
-    buffer: &mut MachBuffer<S>,
-    call: Call,
-    before: Answer,
-    times: u32,
-    stride: u32,
-) -> Answer {
-    let mut last = before;
-    for _turn in 0..times {
-        let got = make(buffer, call);
-        match (last, got) {
-            (Ok(m), Ok(n)) => {
-                if m.wrapping_add(stride) != n {
-                    return Err(0);
-                }
-            }
-            _ => return got,
-        }
-        last = got;
-    }
-    last
-}
-
-/// Opens a region. The token of the open one is kept, if there is one.
-pub fn open<S: InstructionSet + Drop>(
-    buffer: &mut MachBuffer<S>,
-    token: Option<OpenPatchRegion>,
-) -> (Answer, Option<OpenPatchRegion>) {
-    match token {
-        None => match buffer.start_patchable() {
-            Ok(region) => (Ok(region.number), Some(region)),
-            Err(refusal) => (Err(refusal.number()), None),
-        },
-        Some(region) => match buffer.start_patchable() {
-            Ok(OpenPatchRegion { number }) => (Ok(number), Some(region)),
-            Err(refusal) => (Err(refusal.number()), Some(region)),
-        },
-    }
-}
-
-// Closes the open region.
 fn close<S: InstructionSet + Drop>(
     buffer: &mut MachBuffer<S>,
-    token: Option<OpenPatchRegion>,
-) -> (Answer, Option<OpenPatchRegion>) {
-    let Some(region) = token else {
-        return (Err(0), None);
+    token: &mut Option<OpenPatchRegion>,
+) -> Result<u32, Failure> {
+    let Some(region) = token.take() else {
+        return Err(Failure::NoAnswer);
     };
     match buffer.end_patchable(region) {
-        Ok(closed) => (Ok(closed.place.len), None),
-        Err((refusal, region)) => (Err(refusal.number()), Some(region)),
+        Ok(closed) => Ok(closed.place.len),
+        Err((refusal, region)) => {
+            keep(token, region);
+            Err(Failure::Refused(refusal))
+        }
     }
 }
 
@@ -327,77 +301,46 @@ fn is_left(token: Option<OpenPatchRegion>) -> bool {
     }
 }
 
-/// The first call of a list that is not answered as it says, by its number, and both answers.
-#[derive(Clone, Copy)]
-struct Wrong {
-    number: usize,
-    got: Answer,
-    want: Answer,
-}
-
-// Makes each call of a list, and says which was the first to go wrong and whether a region is left open.
-fn first_wrong<S: InstructionSet + Drop>(
-    buffer: &mut MachBuffer<S>,
-    steps: &[(Call, Answer)],
-) -> (Option<Wrong>, bool) {
-    let mut token = None;
-    let mut wrong = None;
-    let mut before = (Call::Offset, Ok(0));
-    for (number, (call, want)) in steps.iter().enumerate() {
-        let (got, next) = match *call {
-            Call::Again(times, stride) => (again(buffer, before.0, before.1, times, stride), token),
-            Call::Open => open(buffer, token),
-            Call::Close => close(buffer, token),
-            _ => (make(buffer, *call), token),
-        };
-        token = next;
-        before = (*call, got);
-        if wrong.is_none() && got != *want {
-            wrong = Some(Wrong {
-                number,
-                got,
-                want: *want,
-            });
-        }
-    }
-    (wrong, is_left(token))
-}
-
 /// Makes each call of a list, which must be answered as it says. It closes each region that it opens.
 pub fn run<S: InstructionSet + Drop>(
     rt: &impl Abort,
     buffer: &mut MachBuffer<S>,
     steps: &[(Call, Answer)],
-) -> Result<(), Fail> {
-    let (wrong, left) = first_wrong(buffer, steps);
-    match wrong {
-        None => {
-            assert!(rt; !left);
-            Ok(())
-        },
-        Some(wrong) => {
-            assert_eq!(rt; (wrong.number, wrong.got), (wrong.number, wrong.want));
-            Ok(())
-        },
+) {
+    let mut token = None;
+    let mut last = (Call::Offset, 0);
+    for (step, (call, want)) in steps.iter().enumerate() {
+        let answered = match *call {
+            Call::Again(times, stride) => {
+                rising(buffer, (0..times).map(|_| last.0), last.1, stride)
+            }
+            Call::ConstantEach(first, n) => request_each(buffer, first, n),
+            Call::Open => open(buffer, &mut token),
+            Call::Close => close(buffer, &mut token),
+            _ => make(buffer, *call),
+        };
+        let got = answered.map_err(u32::from);
+        assert_eq!(rt; (step, got), (step, *want));
+        if let Ok(answer) = got {
+            last = (*call, answer);
+        }
     }
+    assert!(rt; !is_left(token));
 }
 
-/// The calls on a new buffer of AArch64.
-pub fn on_arm(rt: &(impl Abort + AllocGlobal), steps: &[(Call, Answer)]) -> Result<(), Fail> {
-    let mut buffer = MachBuffer::new(rt.alloc(), AArch64)?;
-    run(rt, &mut buffer, steps)
-}
-
-/// The calls on a new buffer of RISC-V.
-pub fn on_riscv(rt: &(impl Abort + AllocGlobal), steps: &[(Call, Answer)]) -> Result<(), Fail> {
-    let mut buffer = MachBuffer::new(rt.alloc(), RiscV)?;
-    run(rt, &mut buffer, steps)
+/// The calls on a new buffer of a set.
+pub fn on<S: InstructionSet + Drop>(
+    rt: &(impl Abort + AllocGlobal),
+    set: S,
+    steps: &[(Call, Answer)],
+) -> Result<(), Fail> {
+    let mut buffer = MachBuffer::new(rt.alloc(), set)?;
+    run(rt, &mut buffer, steps);
+    Ok(())
 }
 
 /// The calls on new buffers of both sets.
 pub fn on_both(rt: &(impl Abort + AllocGlobal), steps: &[(Call, Answer)]) -> Result<(), Fail> {
-    let mut buffer = MachBuffer::new(rt.alloc(), AArch64)?;
-    run(rt, &mut buffer, steps)?;
-    let mut other = MachBuffer::new(rt.alloc(), RiscV)?;
-    run(rt, &mut other, steps)
+    on(rt, AArch64, steps)?;
+    on(rt, RiscV, steps)
 }

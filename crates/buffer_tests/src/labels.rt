@@ -1,8 +1,8 @@
 // Labels.
 use crate::calls::Call::*;
-use crate::calls::{UNBOUND, on_arm, on_both};
+use crate::calls::{UNBOUND, on, on_both};
 use crate::words::GOTO;
-use aarch64::BRANCH26;
+use aarch64::{AArch64, BRANCH26};
 use std::test::Fail;
 
 #[test]
@@ -104,8 +104,9 @@ fn label_is_bound_once(rt: HostRuntime) -> Result<(), Fail> {
 // Labels of traps and constants are reserved, and one that has become an alias is taken.
 #[test]
 fn label_is_not_free(rt: HostRuntime) -> Result<(), Fail> {
-    on_arm(
+    on(
         &rt,
+        AArch64,
         &[
             (Defer(1), Ok(0)),
             (Register(4, 4), Ok(0)),

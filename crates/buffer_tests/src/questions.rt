@@ -1,9 +1,9 @@
 // When an island is needed.
 use crate::calls::Call::*;
-use crate::calls::{UNBOUND, on_arm, on_both, on_riscv};
+use crate::calls::{UNBOUND, on, on_both};
 use crate::words::{ADR, BEQ, GOTO, LDR, RV_BEQ, RV_JAL, TBNZ, TBZ};
-use aarch64::{ADR21, BRANCH14, BRANCH19, BRANCH26, LDR19, PC_REL32};
-use riscv::{B12, J20};
+use aarch64::{AArch64, ADR21, BRANCH14, BRANCH19, BRANCH26, LDR19, PC_REL32};
+use riscv::{B12, J20, RiscV};
 use std::test::Fail;
 
 // Where nothing waits, no distance is too far.
@@ -29,8 +29,9 @@ fn island_is_not_needed(rt: HostRuntime) -> Result<(), Fail> {
 // The deadline is 32,767 behind the use, less the alignment. The island may need 20 bytes for its veneer.
 #[test]
 fn island_after_tbz(rt: HostRuntime) -> Result<(), Fail> {
-    on_arm(
+    on(
         &rt,
+        AArch64,
         &[
             (Label, Ok(0)),
             (Use(0, BRANCH14, TBZ), Ok(0)),
@@ -55,8 +56,9 @@ fn island_after_tbz(rt: HostRuntime) -> Result<(), Fail> {
 // Each kind that comes has a nearer deadline than the one before: the nearest counts.
 #[test]
 fn island_after_each_kind(rt: HostRuntime) -> Result<(), Fail> {
-    on_arm(
+    on(
         &rt,
+        AArch64,
         &[
             (Label, Ok(0)),
             (Use(0, PC_REL32, 0), Ok(0)),
@@ -81,8 +83,9 @@ fn island_after_each_kind(rt: HostRuntime) -> Result<(), Fail> {
 
 #[test]
 fn island_after_loads(rt: HostRuntime) -> Result<(), Fail> {
-    on_arm(
+    on(
         &rt,
+        AArch64,
         &[
             (Label, Ok(0)),
             (Put(0, 64), Ok(0)),
@@ -91,8 +94,9 @@ fn island_after_loads(rt: HostRuntime) -> Result<(), Fail> {
             (Needed(1048548), Ok(1)),
         ],
     )?;
-    on_arm(
+    on(
         &rt,
+        AArch64,
         &[
             (Label, Ok(0)),
             (Use(0, LDR19, LDR), Ok(0)),
@@ -105,8 +109,9 @@ fn island_after_loads(rt: HostRuntime) -> Result<(), Fail> {
 // A deferred trap takes 4 bytes, and a requested constant its size and its alignment.
 #[test]
 fn island_with_traps_and_constants(rt: HostRuntime) -> Result<(), Fail> {
-    on_arm(
+    on(
         &rt,
+        AArch64,
         &[
             (Label, Ok(0)),
             (Use(0, BRANCH14, TBZ), Ok(0)),
@@ -130,8 +135,9 @@ fn island_with_traps_and_constants(rt: HostRuntime) -> Result<(), Fail> {
 // The deadline stays when the use is cut; its veneer counts no longer.
 #[test]
 fn island_after_a_cut(rt: HostRuntime) -> Result<(), Fail> {
-    on_arm(
+    on(
         &rt,
+        AArch64,
         &[
             (Label, Ok(0)),
             (Branch(0, BRANCH14, TBZ, TBNZ), Ok(0)),
@@ -148,8 +154,9 @@ fn island_after_a_cut(rt: HostRuntime) -> Result<(), Fail> {
 
 #[test]
 fn island_on_riscv(rt: HostRuntime) -> Result<(), Fail> {
-    on_riscv(
+    on(
         &rt,
+        RiscV,
         &[
             (Label, Ok(0)),
             (Use(0, J20, RV_JAL), Ok(0)),

@@ -1,10 +1,10 @@
 // Regions that are filled after finishing.
 use crate::calls::Call::*;
-use crate::calls::{UNBOUND, on_arm, run};
+use crate::calls::{UNBOUND, number, on, run};
 use crate::words::{BEQ, BNE, GOTO};
 use aarch64::{AArch64, BRANCH19, BRANCH26};
 use buffer::buffer::MachBuffer;
-use buffer::regions::OpenPatchRegion;
+use buffer::regions::{OpenPatchRegion, PatchRegion};
 use isa::InstructionSet;
 use std::process::Abort;
 use std::test::Fail;
@@ -12,18 +12,23 @@ use std::test::Fail;
 // What closing a region answers: its number, start and length, or the number of the refusal.
 type Closed = Result<(u32, u32, u32), u32>;
 
+fn place(region: PatchRegion) -> (u32, u32, u32) {
+    (region.number, region.place.start, region.place.len)
+}
+
 // Closes a region. A token that comes back is taken apart.
 fn close<S: InstructionSet + Drop>(buffer: &mut MachBuffer<S>, token: OpenPatchRegion) -> Closed {
     match buffer.end_patchable(token) {
-        Ok(region) => Ok((region.number, region.place.start, region.place.len)),
-        Err((refusal, OpenPatchRegion { number: _ })) => Err(refusal.number()),
+        Ok(region) => Ok(place(region)),
+        Err((refusal, OpenPatchRegion { number: _ })) => Err(number(refusal)),
     }
 }
 
 #[test]
 fn region_forbids_labels_and_uses(rt: HostRuntime) -> Result<(), Fail> {
-    on_arm(
+    on(
         &rt,
+        AArch64,
         &[
             (Label, Ok(0)),
             (Open, Ok(0)),
@@ -48,8 +53,9 @@ fn region_forbids_labels_and_uses(rt: HostRuntime) -> Result<(), Fail> {
 
 #[test]
 fn region_takes_data(rt: HostRuntime) -> Result<(), Fail> {
-    on_arm(
+    on(
         &rt,
+        AArch64,
         &[
             (Open, Ok(0)),
             (Put(0, 2), Ok(0)),
@@ -77,8 +83,9 @@ fn region_takes_data(rt: HostRuntime) -> Result<(), Fail> {
 // A region is refused only while another is open, and may stand at any offset.
 #[test]
 fn regions_are_numbered_from_zero(rt: HostRuntime) -> Result<(), Fail> {
-    on_arm(
+    on(
         &rt,
+        AArch64,
         &[
             (Open, Ok(0)),
             (Close, Ok(0)),
@@ -108,7 +115,7 @@ fn region_has_a_place(rt: HostRuntime) -> Result<(), Fail> {
             (Close, Ok(0)),
             (Put(0, 4), Ok(8)),
         ],
-    )?;
+    );
     let token = buffer.start_patchable()?;
     let put = buffer.put_data(0, &[1, 2, 3, 4, 5, 6]);
     let closed = close(&mut buffer, token);
@@ -147,7 +154,8 @@ fn regions_are_64(rt: HostRuntime) -> Result<(), Fail> {
             (Bind(0), Ok(0)),
             (Open, Err(20)),
         ],
-    )
+    );
+    Ok(())
 }
 
 // Where no region is open, a region of another buffer comes back.
@@ -160,7 +168,7 @@ fn region_comes_back_where_none_is_open(rt: HostRuntime) -> Result<(), Fail> {
         Ok(_closed) => Err(Fail::new("closed where no region is open")),
         Err((refusal, token)) => {
             assert_eq!(rt; close(&mut one, token), Ok((0, 0, 0)));
-            assert_eq!(rt; refusal.number(), 2);
+            assert_eq!(rt; number(refusal), 2);
             Ok(())
         }
     }
@@ -176,11 +184,11 @@ fn cross<S: InstructionSet + Drop>(
 ) -> (Closed, Closed, Closed) {
     match other.end_patchable(first) {
         Ok(region) => {
-            let wrong = Ok((region.number, region.place.start, region.place.len));
+            let wrong = Ok(place(region));
             (wrong, wrong, close(other, second))
         }
         Err((refusal, first)) => (
-            Err(refusal.number()),
+            Err(number(refusal)),
             close(one, first),
             close(other, second),
         ),
@@ -203,7 +211,7 @@ fn region_comes_back_where_another_is_open(rt: HostRuntime) -> Result<(), Fail> 
         },
         Err(refusal) => {
             assert_eq!(rt; close(&mut one, first), Ok((0, 0, 0)));
-            assert_eq!(rt; refusal.number(), 0);
+            assert_eq!(rt; number(refusal), 0);
             Ok(())
         }
     }
@@ -212,8 +220,9 @@ fn region_comes_back_where_another_is_open(rt: HostRuntime) -> Result<(), Fail> 
 // Branches before a region stand, and data in it parts them from the end of the code.
 #[test]
 fn region_parts_branches_from_the_end(rt: HostRuntime) -> Result<(), Fail> {
-    on_arm(
+    on(
         &rt,
+        AArch64,
         &[
             (Label, Ok(0)),
             (Jump(0, BRANCH26, GOTO), Ok(0)),
@@ -231,8 +240,9 @@ fn region_parts_branches_from_the_end(rt: HostRuntime) -> Result<(), Fail> {
 // An empty region does not: the jump before it vanishes.
 #[test]
 fn region_that_is_empty_parts_nothing(rt: HostRuntime) -> Result<(), Fail> {
-    on_arm(
+    on(
         &rt,
+        AArch64,
         &[
             (Label, Ok(0)),
             (Jump(0, BRANCH26, GOTO), Ok(0)),

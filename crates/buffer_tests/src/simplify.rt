@@ -1,15 +1,16 @@
 // Simplifying the branches at the end of the code.
 use crate::calls::Call::*;
-use crate::calls::{UNBOUND, on_arm, on_riscv};
+use crate::calls::{UNBOUND, on};
 use crate::words::{BEQ, BNE, CBNZ, CBZ, GOTO, RV_BEQ, RV_BNE, RV_JAL, TBNZ, TBZ};
-use aarch64::{BRANCH14, BRANCH19, BRANCH26};
-use riscv::{B12, J20};
+use aarch64::{AArch64, BRANCH14, BRANCH19, BRANCH26};
+use riscv::{B12, J20, RiscV};
 use std::test::Fail;
 
 #[test]
 fn jump_to_the_next_place_vanishes(rt: HostRuntime) -> Result<(), Fail> {
-    on_arm(
+    on(
         &rt,
+        AArch64,
         &[
             (Simplify, Ok(0)),
             (Label, Ok(0)),
@@ -37,8 +38,9 @@ fn jump_to_the_next_place_vanishes(rt: HostRuntime) -> Result<(), Fail> {
 // Three branches to the next place vanish one after the other, and every label at the tail moves along.
 #[test]
 fn branches_to_the_next_place_vanish(rt: HostRuntime) -> Result<(), Fail> {
-    on_arm(
+    on(
         &rt,
+        AArch64,
         &[
             (Label, Ok(0)),
             (Label, Ok(1)),
@@ -63,8 +65,9 @@ fn branches_to_the_next_place_vanish(rt: HostRuntime) -> Result<(), Fail> {
 
 #[test]
 fn jump_is_kept_under_skip(rt: HostRuntime) -> Result<(), Fail> {
-    on_arm(
+    on(
         &rt,
+        AArch64,
         &[
             (Label, Ok(0)),
             (Label, Ok(1)),
@@ -88,8 +91,9 @@ fn jump_is_kept_under_skip(rt: HostRuntime) -> Result<(), Fail> {
 
 #[test]
 fn jump_to_itself_stays(rt: HostRuntime) -> Result<(), Fail> {
-    on_arm(
+    on(
         &rt,
+        AArch64,
         &[
             (Label, Ok(0)),
             (Label, Ok(1)),
@@ -117,8 +121,9 @@ fn jump_to_itself_stays(rt: HostRuntime) -> Result<(), Fail> {
 // A jump to an alias of the label at its start is one to itself too.
 #[test]
 fn jump_to_itself_by_an_alias_stays(rt: HostRuntime) -> Result<(), Fail> {
-    on_arm(
+    on(
         &rt,
+        AArch64,
         &[
             (Label, Ok(0)),
             (Label, Ok(1)),
@@ -143,8 +148,9 @@ fn jump_to_itself_by_an_alias_stays(rt: HostRuntime) -> Result<(), Fail> {
 
 #[test]
 fn branch_over_a_jump_is_turned(rt: HostRuntime) -> Result<(), Fail> {
-    on_arm(
+    on(
         &rt,
+        AArch64,
         &[
             (Label, Ok(0)),
             (Label, Ok(1)),
@@ -172,8 +178,9 @@ fn branch_over_a_jump_is_turned(rt: HostRuntime) -> Result<(), Fail> {
 // The turned branch takes the bytes of its inversion, whatever their field, and the code before it stays.
 #[test]
 fn branch_is_turned_to_its_inversion(rt: HostRuntime) -> Result<(), Fail> {
-    on_arm(
+    on(
         &rt,
+        AArch64,
         &[
             (Label, Ok(0)),
             (Label, Ok(1)),
@@ -199,8 +206,9 @@ fn branch_is_turned_to_its_inversion(rt: HostRuntime) -> Result<(), Fail> {
 
 #[test]
 fn branch_over_a_jump_on_riscv(rt: HostRuntime) -> Result<(), Fail> {
-    on_riscv(
+    on(
         &rt,
+        RiscV,
         &[
             (Label, Ok(0)),
             (Label, Ok(1)),
@@ -219,8 +227,9 @@ fn branch_over_a_jump_on_riscv(rt: HostRuntime) -> Result<(), Fail> {
 // Turned twice, it is as it was, and leads to the third label.
 #[test]
 fn branch_is_turned_twice(rt: HostRuntime) -> Result<(), Fail> {
-    on_arm(
+    on(
         &rt,
+        AArch64,
         &[
             (Label, Ok(0)),
             (Label, Ok(1)),
@@ -248,8 +257,9 @@ fn branch_is_turned_twice(rt: HostRuntime) -> Result<(), Fail> {
 // Only where the branch leads to the end of the jump, and adjoins it.
 #[test]
 fn branch_is_not_turned(rt: HostRuntime) -> Result<(), Fail> {
-    on_arm(
+    on(
         &rt,
+        AArch64,
         &[
             (Label, Ok(0)),
             (Label, Ok(1)),
@@ -277,8 +287,9 @@ fn branch_is_not_turned(rt: HostRuntime) -> Result<(), Fail> {
 // Labels at the jump first become aliases of its target.
 #[test]
 fn branch_over_a_labelled_jump(rt: HostRuntime) -> Result<(), Fail> {
-    on_arm(
+    on(
         &rt,
+        AArch64,
         &[
             (Label, Ok(0)),
             (Label, Ok(1)),
@@ -304,8 +315,9 @@ fn branch_over_a_labelled_jump(rt: HostRuntime) -> Result<(), Fail> {
 
 #[test]
 fn jump_behind_a_jump_is_cut(rt: HostRuntime) -> Result<(), Fail> {
-    on_arm(
+    on(
         &rt,
+        AArch64,
         &[
             (Label, Ok(0)),
             (Label, Ok(1)),
@@ -334,8 +346,9 @@ fn jump_behind_a_jump_is_cut(rt: HostRuntime) -> Result<(), Fail> {
 // A label at the second jump becomes an alias, and the jump is cut all the same.
 #[test]
 fn labelled_jump_behind_a_jump_is_cut(rt: HostRuntime) -> Result<(), Fail> {
-    on_arm(
+    on(
         &rt,
+        AArch64,
         &[
             (Label, Ok(0)),
             (Label, Ok(1)),
@@ -359,8 +372,9 @@ fn labelled_jump_behind_a_jump_is_cut(rt: HostRuntime) -> Result<(), Fail> {
 // A jump behind a conditional stays, and so does a conditional behind a jump.
 #[test]
 fn branches_in_a_row_stay(rt: HostRuntime) -> Result<(), Fail> {
-    on_arm(
+    on(
         &rt,
+        AArch64,
         &[
             (Label, Ok(0)),
             (Label, Ok(1)),
@@ -385,8 +399,9 @@ fn branches_in_a_row_stay(rt: HostRuntime) -> Result<(), Fail> {
 // Labels at a jump follow it to where its target is bound later.
 #[test]
 fn labels_at_a_jump_become_aliases(rt: HostRuntime) -> Result<(), Fail> {
-    on_arm(
+    on(
         &rt,
+        AArch64,
         &[
             (Label, Ok(0)),
             (Label, Ok(1)),
@@ -415,8 +430,9 @@ fn labels_at_a_jump_become_aliases(rt: HostRuntime) -> Result<(), Fail> {
 // To where a target stands already, ahead of the jump or behind it.
 #[test]
 fn labels_at_a_jump_back_become_aliases(rt: HostRuntime) -> Result<(), Fail> {
-    on_arm(
+    on(
         &rt,
+        AArch64,
         &[
             (Label, Ok(0)),
             (Label, Ok(1)),
@@ -440,8 +456,9 @@ fn labels_at_a_jump_back_become_aliases(rt: HostRuntime) -> Result<(), Fail> {
 // The first leads by three more to the last, wherever that is bound.
 #[test]
 fn aliases_make_a_chain(rt: HostRuntime) -> Result<(), Fail> {
-    on_arm(
+    on(
         &rt,
+        AArch64,
         &[
             (Label, Ok(0)),
             (Again(4, 1), Ok(4)),
@@ -470,8 +487,9 @@ fn aliases_make_a_chain(rt: HostRuntime) -> Result<(), Fail> {
 // A label that an island will bind can be the target too.
 #[test]
 fn labels_become_aliases_of_a_trap(rt: HostRuntime) -> Result<(), Fail> {
-    on_arm(
+    on(
         &rt,
+        AArch64,
         &[
             (Label, Ok(0)),
             (Defer(1), Ok(1)),
@@ -490,8 +508,9 @@ fn labels_become_aliases_of_a_trap(rt: HostRuntime) -> Result<(), Fail> {
 // 100 labels at the start of a branch are taken: by a jump ahead, and by one to the next place.
 #[test]
 fn hundred_labels_are_taken(rt: HostRuntime) -> Result<(), Fail> {
-    on_arm(
+    on(
         &rt,
+        AArch64,
         &[
             (Label, Ok(0)),
             (Again(202, 1), Ok(202)),
@@ -519,8 +538,9 @@ fn hundred_labels_are_taken(rt: HostRuntime) -> Result<(), Fail> {
 // 101 end the rounds, even at a jump to the next place.
 #[test]
 fn hundred_and_one_labels_stop(rt: HostRuntime) -> Result<(), Fail> {
-    on_arm(
+    on(
         &rt,
+        AArch64,
         &[
             (Label, Ok(0)),
             (Again(104, 1), Ok(104)),
@@ -547,8 +567,9 @@ fn hundred_and_one_labels_stop(rt: HostRuntime) -> Result<(), Fail> {
 // What stands behind data is not cut.
 #[test]
 fn branches_behind_data_stay(rt: HostRuntime) -> Result<(), Fail> {
-    on_arm(
+    on(
         &rt,
+        AArch64,
         &[
             (Label, Ok(0)),
             (Label, Ok(1)),
@@ -572,8 +593,9 @@ fn branches_behind_data_stay(rt: HostRuntime) -> Result<(), Fail> {
 // It is forgotten when branches are simplified, and not under skip.
 #[test]
 fn branches_behind_data_are_forgotten(rt: HostRuntime) -> Result<(), Fail> {
-    on_arm(
+    on(
         &rt,
+        AArch64,
         &[
             (Label, Ok(0)),
             (Again(2, 1), Ok(2)),
@@ -600,8 +622,9 @@ fn branches_behind_data_are_forgotten(rt: HostRuntime) -> Result<(), Fail> {
 // 512 jumps in a row come to one, and 512 to the next place to none.
 #[test]
 fn many_jumps_come_to_one(rt: HostRuntime) -> Result<(), Fail> {
-    on_arm(
+    on(
         &rt,
+        AArch64,
         &[
             (Label, Ok(0)),
             (Label, Ok(1)),

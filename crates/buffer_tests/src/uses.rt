@@ -1,18 +1,19 @@
 // Bytes that refer to a label, and branches.
 use crate::calls::Call::*;
-use crate::calls::{UNBOUND, on_arm, on_riscv};
+use crate::calls::{UNBOUND, on};
 use crate::words::{
     ADR, BEQ, BL, BNE, CBNZ, CBZ, GOTO, LDR, NOP, RV_BEQ, RV_BNE, RV_JAL, TBNZ, TBZ,
 };
-use aarch64::{ADR21, BRANCH14, BRANCH19, BRANCH26, LDR19, PC_REL32};
-use riscv::{B12, J20};
+use aarch64::{AArch64, ADR21, BRANCH14, BRANCH19, BRANCH26, LDR19, PC_REL32};
+use riscv::{B12, J20, RiscV};
 use std::test::Fail;
 
 // Every kind, to a label that is unbound, bound or reserved.
 #[test]
 fn use_of_every_kind(rt: HostRuntime) -> Result<(), Fail> {
-    on_arm(
+    on(
         &rt,
+        AArch64,
         &[
             (Label, Ok(0)),
             (Label, Ok(1)),
@@ -41,8 +42,9 @@ fn use_of_every_kind(rt: HostRuntime) -> Result<(), Fail> {
 // As many bytes as the kind has, and 0 where the kind adds.
 #[test]
 fn use_has_its_bytes(rt: HostRuntime) -> Result<(), Fail> {
-    on_arm(
+    on(
         &rt,
+        AArch64,
         &[
             (Label, Ok(0)),
             (UseOf(0, 0, BRANCH26, GOTO), Err(7)),
@@ -71,8 +73,9 @@ fn use_has_its_bytes(rt: HostRuntime) -> Result<(), Fail> {
 // 2 before 3 before 6 before 7 before 5.
 #[test]
 fn use_is_refused_in_order(rt: HostRuntime) -> Result<(), Fail> {
-    on_arm(
+    on(
         &rt,
+        AArch64,
         &[
             (Put(0, 2), Ok(0)),
             (Open, Ok(0)),
@@ -99,8 +102,9 @@ fn use_is_refused_in_order(rt: HostRuntime) -> Result<(), Fail> {
 
 #[test]
 fn branch_is_refused_in_order(rt: HostRuntime) -> Result<(), Fail> {
-    on_arm(
+    on(
         &rt,
+        AArch64,
         &[
             (Put(0, 2), Ok(0)),
             (Open, Ok(0)),
@@ -128,8 +132,9 @@ fn branch_is_refused_in_order(rt: HostRuntime) -> Result<(), Fail> {
 // The 4,096th use is granted, and 7 and 5 come before 10, and 10 before 8.
 #[test]
 fn waiting_uses_are_4096(rt: HostRuntime) -> Result<(), Fail> {
-    on_arm(
+    on(
         &rt,
+        AArch64,
         &[
             (Label, Ok(0)),
             (Use(0, LDR19, LDR), Ok(0)),
@@ -158,8 +163,9 @@ fn waiting_uses_are_4096(rt: HostRuntime) -> Result<(), Fail> {
 // A jump that is cut gives its place back.
 #[test]
 fn waiting_use_gives_way(rt: HostRuntime) -> Result<(), Fail> {
-    on_arm(
+    on(
         &rt,
+        AArch64,
         &[
             (Label, Ok(0)),
             (Label, Ok(1)),
@@ -178,8 +184,9 @@ fn waiting_use_gives_way(rt: HostRuntime) -> Result<(), Fail> {
 // The 512th branch is granted, and a plain use still is. Then 10 comes before 11.
 #[test]
 fn standing_branches_are_512(rt: HostRuntime) -> Result<(), Fail> {
-    on_arm(
+    on(
         &rt,
+        AArch64,
         &[
             (Label, Ok(0)),
             (Jump(0, BRANCH26, GOTO), Ok(0)),
@@ -207,8 +214,9 @@ fn standing_branches_are_512(rt: HostRuntime) -> Result<(), Fail> {
 // 11 before 8.
 #[test]
 fn standing_branches_before_code(rt: HostRuntime) -> Result<(), Fail> {
-    on_arm(
+    on(
         &rt,
+        AArch64,
         &[
             (Label, Ok(0)),
             (Jump(0, BRANCH26, GOTO), Ok(0)),
@@ -227,8 +235,9 @@ fn standing_branches_before_code(rt: HostRuntime) -> Result<(), Fail> {
 // The last word of the code is granted, and 5 comes before 8.
 #[test]
 fn use_fills_the_code(rt: HostRuntime) -> Result<(), Fail> {
-    on_arm(
+    on(
         &rt,
+        AArch64,
         &[
             (Label, Ok(0)),
             (Put(0, 65524), Ok(0)),
@@ -252,8 +261,9 @@ fn use_fills_the_code(rt: HostRuntime) -> Result<(), Fail> {
 
 #[test]
 fn branch_fills_the_code(rt: HostRuntime) -> Result<(), Fail> {
-    on_arm(
+    on(
         &rt,
+        AArch64,
         &[
             (Label, Ok(0)),
             (Put(0, 65532), Ok(0)),
@@ -270,8 +280,9 @@ fn branch_fills_the_code(rt: HostRuntime) -> Result<(), Fail> {
 
 #[test]
 fn jump_is_unconditional(rt: HostRuntime) -> Result<(), Fail> {
-    on_arm(
+    on(
         &rt,
+        AArch64,
         &[
             (Label, Ok(0)),
             (Jump(0, BRANCH26, BL), Err(7)),
@@ -299,8 +310,9 @@ fn jump_is_unconditional(rt: HostRuntime) -> Result<(), Fail> {
 
 #[test]
 fn branch_is_conditional(rt: HostRuntime) -> Result<(), Fail> {
-    on_arm(
+    on(
         &rt,
+        AArch64,
         &[
             (Label, Ok(0)),
             (Branch(0, BRANCH26, GOTO, GOTO), Err(7)),
@@ -329,8 +341,9 @@ fn branch_is_conditional(rt: HostRuntime) -> Result<(), Fail> {
 // The same sense, another condition, and other bits outside the field. Another field is granted.
 #[test]
 fn inversion_of_aarch64(rt: HostRuntime) -> Result<(), Fail> {
-    on_arm(
+    on(
         &rt,
+        AArch64,
         &[
             (Label, Ok(0)),
             (Branch(0, BRANCH19, BEQ, BEQ), Err(7)),
@@ -359,8 +372,9 @@ fn inversion_of_aarch64(rt: HostRuntime) -> Result<(), Fail> {
 // Fourteen conditions come in pairs. 14 and 15 are always, and with bit 4 it is BC.cond.
 #[test]
 fn conditions_of_aarch64(rt: HostRuntime) -> Result<(), Fail> {
-    on_arm(
+    on(
         &rt,
+        AArch64,
         &[
             (Label, Ok(0)),
             (Branch(0, BRANCH19, 0x5400_0000, 0x5400_0001), Ok(0)),
@@ -388,8 +402,9 @@ fn conditions_of_aarch64(rt: HostRuntime) -> Result<(), Fail> {
 // Veneers change the registers 16 and 17.
 #[test]
 fn registers_of_aarch64(rt: HostRuntime) -> Result<(), Fail> {
-    on_arm(
+    on(
         &rt,
+        AArch64,
         &[
             (Label, Ok(0)),
             (Branch(0, BRANCH19, CBZ, CBNZ), Ok(0)),
@@ -417,8 +432,9 @@ fn registers_of_aarch64(rt: HostRuntime) -> Result<(), Fail> {
 // Three pairs of branches, and a jump that links nothing.
 #[test]
 fn branches_of_riscv(rt: HostRuntime) -> Result<(), Fail> {
-    on_riscv(
+    on(
         &rt,
+        RiscV,
         &[
             (Label, Ok(0)),
             (Branch(0, B12, RV_BEQ, RV_BNE), Ok(0)),
@@ -437,8 +453,9 @@ fn branches_of_riscv(rt: HostRuntime) -> Result<(), Fail> {
 
 #[test]
 fn refusals_of_riscv(rt: HostRuntime) -> Result<(), Fail> {
-    on_riscv(
+    on(
         &rt,
+        RiscV,
         &[
             (Label, Ok(0)),
             (Branch(0, B12, RV_BEQ, RV_BEQ), Err(7)),

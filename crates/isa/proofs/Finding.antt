@@ -1,13 +1,16 @@
 -- A branch that begins at an offset of some code is found, where no other kind takes its bytes for a branch.
-use Rattle.std.proofs.Common.{◌≡◌, ℕ, Bool, true, false, ◌||◌, T, eqb, leb, ◌⊎◌, List, [], ◌∷◌, ◌++◌, length, take, drop, ℤ, Some, None, Option, is_some, option_map, sym, refl, ap, ◌∙◌, inl, inr, arith, le→leb, eqb→eq, length-append, take_at}
+use Rattle.std.proofs.Common.{◌≡◌, ℕ, Bool, true, false, ◌||◌, T, eqb, leb, ◌⊎◌, List, [], ◌∷◌, ◌++◌, length, take, drop, ℤ, pos, ◌+ℤ◌, Some, None, Option, is_some, option_map, sym, refl, ap, subst, ◌∙◌, append-nil, inl, inr, arith, le→leb, eqb→eq, length-append, take_at}
 use lib.Seq.{drop-append_seam}
 use Rattle.std.specs.Option.{option_or}
+use Rattle.std.proofs.lemmas.Int.{ints}
 use Rattle.std.proofs.lemmas.Bool.{cases_Bool, false≢true, true≢false, cond-true}
 use Rattle.isa.specs.declared.jumps.Jump.{Jump}
 use Rattle.isa.specs.declared.jumps.Jump.TheVariants.{Branch}
 use Rattle.isa.specs.declared.jumps.Role.{Role}
+use Rattle.isa.specs.declared.jumps.Role.TheVariants.{Unconditional}
 use Rattle.isa.specs.Finding.{role_at, branch_among}
 use Rattle.isa.specs.Isa.{Isa}
+use Rattle.isa.specs.Laws.{Leads}
 
 abbrev pub holds : ℕ → List ℕ → Bool
 holds k [] = false
@@ -65,3 +68,15 @@ module _ (size : ℕ → ℕ) (role : ℕ → List ℕ → Option Role) (reads :
 -- where the kinds have one size, the branch that is found has the bytes at the head
 pub one_size : (i : Isa) (n j : ℕ) (b after : List ℕ) → length b ≡ n → is_some (role_at n (i.role j) (b ++ after)) ≡ true → is_some (i.role j b) ≡ true
 one_size i n j b after l h = ap is_some (sym (at_head n (i.role j) b after l)) ∙ h
+
+from_zero : (d : ℤ) → d ≡ pos 0 +ℤ d
+from_zero d = omega (arith, ints)
+
+-- a word that always jumps, patched, leads to its target
+pub jump_leads : (i : Isa) (k : ℕ) (b : List ℕ) (n : ℕ) (d : ℤ) (before after : List ℕ)
+    → i.find (before ++ (i.patched k b d ++ after)) (length before) ≡ Some (Branch Unconditional n d)
+    → Leads (i.find (before ++ ((i.patched k b d ++ []) ++ after)) (length before)) (pos 0 +ℤ d)
+jump_leads i k b n d before after found =
+    let e : i.find (before ++ ((i.patched k b d ++ []) ++ after)) (length before) ≡ Some (Branch Unconditional n d) =
+    ap (λ (c : List ℕ). i.find (before ++ (c ++ after)) (length before)) (append-nil (i.patched k b d)) ∙ found in
+    subst (λ (f : Option Jump). Leads f (pos 0 +ℤ d)) (sym e) (refl, from_zero d)

@@ -1,4 +1,5 @@
 pub mod Conditionals
 pub mod Finding
 pub mod Formatted
+pub mod Inversions
 pub mod Ranges

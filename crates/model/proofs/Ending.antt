@@ -29,13 +29,13 @@ aliased_one : (at : ℕ) (o : Option ℕ) → one (is_some (cond (is_at at o) No
 aliased_one at None = omega arith
 aliased_one at (Some n) = elim (eqb n at) as (λ b. one (is_some (cond b None (Some n))) + one b ≤ 1) [ true ↦ omega arith | false ↦ omega arith ]
 
-bound_moved : (from to : ℕ) (xs : List Label) → bound_count (map (moved from to) xs) ≤ bound_count xs
+pub bound_moved : (from to : ℕ) (xs : List Label) → bound_count (map (moved from to) xs) ≤ bound_count xs
 bound_moved from to [] = omega arith
 bound_moved from to (x ∷ xs) =
     let count : Label → ℕ = λ y. one (is_some y.offset) in
     omega (arith, bound_moved from to xs, moved_one from to x.offset, sum_by-cons count x xs, sum_by-cons count (moved from to x) (map (moved from to) xs))
 
-bound_aliased : (at target : ℕ) (xs : List Label) → bound_count (map (aliased at target) xs) + standing at xs ≤ bound_count xs
+pub bound_aliased : (at target : ℕ) (xs : List Label) → bound_count (map (aliased at target) xs) + standing at xs ≤ bound_count xs
 bound_aliased at target [] = omega arith
 bound_aliased at target (x ∷ xs) =
     let count : Label → ℕ = λ y. one (is_some y.offset) in

@@ -70,7 +70,7 @@ pub fn replay_calls<S: InstructionSet + Drop>(
         answers.push_reserved(session.make(*call));
     }
     let accepted = count_accepted(calls, &answers) as u128;
-    let removed = accepted - session.buffer.waiting_len() as u128;
+    let removed = accepted - u128::from(session.buffer.waiting_len());
     Ok(Replay {
         session,
         answers,

@@ -111,6 +111,7 @@ impl<S: InstructionSet + Drop> Session<S> {
     }
 
     /// Ends with the buffer. A region that is still open is closed first.
+    // Not a `Drop`: its impl could have no bound that the struct lacks, and closing asks that S be a set.
     pub fn let_go(self) {
         let Session { mut buffer, token } = self;
         let Some(region) = token else {

@@ -1,17 +1,14 @@
 -- Each patched branch and each veneer is found where it begins.
-use Rattle.std.specs.Prelude.{◌≡◌, ℕ, ◌+◌, ◌<◌, true, T, List, [], ◌∷◌, ◌++◌, length, ℤ, pos, ◌+ℤ◌, Some, Option, is_some, refl}
-use Rattle.std.proofs.Common.{sym, ap, subst, ◌∙◌, append-nil, arith}
-use Rattle.std.proofs.lemmas.Int.{ints}
+use Rattle.std.specs.Prelude.{◌≡◌, ℕ, ◌+◌, ◌<◌, true, T, List, [], ◌∷◌, ◌++◌, length, ℤ, pos, ◌+ℤ◌, Some, is_some, refl}
 use Rattle.std.proofs.lemmas.Bool.{false≢true}
 use Rattle.bits.specs.Fields.{get}
 use Rattle.bits.specs.Words.{word, to_bytes}
-use Rattle.isa.specs.declared.jumps.Jump.{Jump}
 use Rattle.isa.specs.declared.jumps.Jump.TheVariants.{Branch}
 use Rattle.isa.specs.declared.jumps.Role.{Role}
 use Rattle.isa.specs.declared.jumps.Role.TheVariants.{Unconditional}
 use Rattle.isa.specs.Isa.{Patchable, bytes_at, patched_at}
 use Rattle.isa.specs.Laws.{Leads}
-use Rattle.isa.proofs.Finding.{holds, one_size}
+use Rattle.isa.proofs.Finding.{holds, one_size, jump_leads}
 use Rattle.isa.proofs.Formatted.{finds_branch as formatted_branch}
 use Rattle.short_set.specs.Meaning.{short}
 use Rattle.short_set.specs.KindTables.{below_4, formatted, role_outside, role_once}
@@ -27,19 +24,6 @@ finds_branch =
     formatted_branch formatted (0 ∷ 1 ∷ 2 ∷ []) (λ code at j e. e) (λ k b c p q. role_outside k p.kind b c) (λ k b p. branch_kinds k p.kind b)
     (λ k j b after p t h. role_once j k b (one_size short 4 j b after p.long h) t)
 
-from_zero : (d : ℤ) → d ≡ pos 0 +ℤ d
-from_zero d = omega (arith, ints)
-
--- a word that always jumps, patched, leads to its target
-leads : (k : ℕ) (b : List ℕ) (d : ℤ) (before after : List ℕ) → Patchable short k b d → short.role k b ≡ Some Unconditional
-    → Leads (short.find (before ++ ((short.patched k b d ++ []) ++ after)) (length before)) (pos 0 +ℤ d)
-leads k b d before after p j =
-    let q = short.patched k b d in
-    let e : short.find (before ++ ((q ++ []) ++ after)) (length before) ≡ Some (Branch Unconditional 4 d) =
-    ap (λ (c : List ℕ). short.find (before ++ (c ++ after)) (length before)) (append-nil q)
-    ∙ finds_branch k b d before after Unconditional p j in
-    subst (λ (f : Option Jump). Leads f (pos 0 +ℤ d)) (sym e) (refl, from_zero d)
-
 jump_word : short.role 1 (to_bytes 4 2) ≡ Some Unconditional
 unfolding get word
 jump_word = refl
@@ -47,6 +31,10 @@ jump_word = refl
 far_word : short.role 2 (to_bytes 4 3) ≡ Some Unconditional
 unfolding get word
 far_word = refl
+
+leads : (k : ℕ) (b : List ℕ) (d : ℤ) (before after : List ℕ) → Patchable short k b d → short.role k b ≡ Some Unconditional
+    → Leads (short.find (before ++ ((short.patched k b d ++ []) ++ after)) (length before)) (pos 0 +ℤ d)
+leads k b d before after p j = jump_leads short k b 4 d before after (finds_branch k b d before after Unconditional p j)
 
 -- the code of kind k's veneer, patched, leads to the target of its own use
 abbrev FoundOn : ℕ → Type 0

@@ -4,13 +4,13 @@ use Rattle.std.proofs.Common.{inr, arith, lit<, lit≤}
 use Rattle.std.proofs.lemmas.Bool.{ltb-false, false≢true}
 use Rattle.bits.specs.Fields.{get}
 use Rattle.bits.specs.Words.{word, signed}
-use Rattle.bits.proofs.LittleEndian.{length-to_bytes, octets_to_bytes, octets}
+use Rattle.bits.proofs.LittleEndian.{octets}
 use Rattle.isa.specs.Laws.{Lawful, VeneerBounds}
+use Rattle.isa.proofs.Inversions.{inverted_long, inverted_octets, inverted_role, inverted_reads, inverted_rest, rest_outside}
 use Rattle.isa.proofs.Formatted.{patched_long, patched_octets, reads_patched, outside_patched, field_only}
-use Rattle.isa.specs.Words.{turned}
-use Rattle.short_set.specs.Meaning.{short, short_words}
+use Rattle.short_set.specs.Meaning.{short}
 use Rattle.short_set.specs.Finds.{finds_branch, finds_veneer}
-use Rattle.short_set.specs.Inversions.{inverted_role, inverted_reads, inverted_rest, rest_outside}
+use Rattle.short_set.specs.Inversions.{conditionals}
 use Rattle.short_set.specs.KindTables.{below_4, formatted, bounds, role_outside, role_once}
 
 branch_veneer : VeneerBounds short 0 (short.veneer 0)
@@ -58,12 +58,12 @@ short_lawful = record {
   role_outside = λ k b c p q. role_outside k p.kind b c;
   role_once = λ k j b p q. role_once k j b;
   adds_no_branch = λ k b p e. absurd (false≢true e);
-  inverted_long = λ k b p. length-to_bytes 4 (turned short_words (word 4 b));
-  inverted_octets = λ k b p. octets_to_bytes 4 (turned short_words (word 4 b));
-  inverted_role = λ k b c s p. inverted_role k p.kind b c s;
-  inverted_reads = λ k b c s p. inverted_reads k p.kind b c s;
-  inverted_rest = λ k b c s p. inverted_rest k p.kind b c s;
-  rest_outside = λ k b c x s p q. rest_outside k p.kind b c x s;
+  inverted_long = λ k b p. inverted_long conditionals b;
+  inverted_octets = λ k b p. inverted_octets conditionals b;
+  inverted_role = λ k b c s p. inverted_role conditionals k b c s p.kind;
+  inverted_reads = λ k b c s p. inverted_reads conditionals k b c s p.kind;
+  inverted_rest = λ k b c s p. inverted_rest conditionals k b c s p.kind;
+  rest_outside = λ k b c x s p q. rest_outside conditionals k b c x s p.kind;
   veneer_bounds = below_4 (λ k. short.supports k ≡ true → VeneerBounds short k (short.veneer k))
       (λ e. branch_veneer) (λ e. jump_veneer) (λ e. absurd (false≢true e)) (λ e. absurd (false≢true e));
   no_chain = λ k e. no_chain k (ltb-false k 2 e);

@@ -1,11 +1,13 @@
 -- One round of simplifying, and the end of the rounds.
-use Rattle.std.proofs.Common.{◌≡◌, ℕ, zero, suc, ◌+◌, ◌-◌, ◌<◌, ◌≤◌, Bool, true, false, ltb, List, length, get_or, drop, sym, refl, ap, ◌∙◌, subst, arith}
-use Rattle.std.proofs.lemmas.List.{drop_more}
+use Rattle.std.proofs.Common.{◌≡◌, ℕ, zero, suc, ◌+◌, ◌-◌, ◌<◌, ◌≤◌, Bool, true, false, cond, eqb, ltb, List, length, get_or, take, drop, Some, None, Option, sym, refl, ap, ◌∙◌, subst, arith}
+use Rattle.std.specs.Option.{option_eq}
+use Rattle.std.proofs.lemmas.List.{drop_more, take_all}
+use Rattle.std.proofs.lemmas.List.Sums.{count_by_more_yes, sum_by-take-le}
 use Rattle.std.proofs.lemmas.Bool.{lt-ltb, eq-eqb, ne_eqb, le-leb, lt-leb, and_from, and_left, and_right, le-ltb}
 use Rattle.model.specs.declared.rows.Branch.{Branch}
 use Rattle.model.specs.declared.rows.Label.{Label}
-use Rattle.model.specs.Labels.{standing}
-use Rattle.model.specs.State.{State, unknown, cur_offset}
+use Rattle.model.specs.Labels.{unbound, is_at, standing}
+use Rattle.model.specs.State.{State, cur_offset}
 use Rattle.model.specs.Simplify.{last_branch, takes_branch, round, rounds}
 use Rattle.simplification.specs.declared.rules.Rule.{Rule}
 use Rattle.simplification.specs.declared.rules.Rule.TheVariants.{CutToNext}
@@ -63,9 +65,21 @@ module _ (s v t : State) (i : ℕ) (h : i < 4) (same : v ≡ s) (before : try_ru
   pub step_passed : (Passed, t) ≡ apply (get_or all_rules i CutToNext) v → try_rules (drop (i + 1) all_rules) t ≡ try_rules all_rules s
   step_passed e = step Passed e
 
+-- std's equality with a place
+pub place_eq : (at : ℕ) (o : Option ℕ) (b : Bool) → b ≡ option_eq eqb o (Some at) → is_at at o ≡ b
+place_eq at None b e = sym e
+place_eq at (Some n) b e = sym e
+
 -- the labels counted at a branch, which is the last
-pub counted : (s : State) (b : Branch) (xs : List Label) (n : ℕ) → b ≡ last_branch s → xs ≡ s.labels → n ≡ standing b.start xs → n ≡ standing (last_branch s).start s.labels
-counted s b xs n p q e = e ∙ (ap (λ (x : Branch). standing x.start xs) p ∙ ap (standing (last_branch s).start) q)
+pub stood_all : (s : State) (b : Branch) (xs : List Label) (i n : ℕ) → b ≡ last_branch s → xs ≡ s.labels → length xs ≤ i → n ≡ standing b.start (take i xs) → n ≡ standing (last_branch s).start s.labels
+stood_all s b xs i n p q h e = e ∙ (ap (standing b.start) (take_all i xs h) ∙ (ap (λ (x : Branch). standing x.start xs) p ∙ ap (standing (last_branch s).start) q))
+
+pub stood_some : (s : State) (b : Branch) (xs : List Label) (i n : ℕ) → b ≡ last_branch s → xs ≡ s.labels → i < length xs → n ≡ standing b.start (take i xs) → is_at b.start (get_or xs i (unbound false)).offset ≡ true → n + 1 ≤ standing (last_branch s).start s.labels
+stood_some s b xs i n p q h e t =
+    let more = count_by_more_yes (λ (x : Label). is_at b.start x.offset) xs i (unbound false) h t in
+    let part = sum_by-take-le (λ (x : Label). cond (is_at b.start x.offset) 1 0) xs (i + 1) in
+    let whole : standing b.start xs ≡ standing (last_branch s).start s.labels = ap (λ (x : Branch). standing x.start xs) p ∙ ap (standing (last_branch s).start) q in
+    omega arith
 
 -- what each outcome says of the tables
 module _ (r : Rule) (s v t : State) (same : v ≡ s) where
@@ -75,7 +89,7 @@ module _ (r : Rule) (s v t : State) (same : v ≡ s) where
   pub stopped_same : (Stopped, t) ≡ apply r v → t ≡ s
   stopped_same e = ap (λ (p : Outcome × State). p.1) e ∙ (apply_stopped r v (sym (ap (λ (p : Outcome × State). p.0) e)) ∙ same)
 
-  pub applied_falls : (Applied, t) ≡ apply r v → 0 < length s.branches → cur_offset s < unknown → (last_branch s).start < unknown → fuel t < fuel s
-  applied_falls e h b l =
+  pub applied_falls : (Applied, t) ≡ apply r v → 0 < length s.branches → fuel t < fuel s
+  applied_falls e h =
       let k : (Applied, t) ≡ apply r s = e ∙ ap (apply r) same in
-      subst (λ (x : State). fuel x < fuel s) (sym (ap (λ (p : Outcome × State). p.1) k)) (apply_falls r s h b l (sym (ap (λ (p : Outcome × State). p.0) k)))
+      subst (λ (x : State). fuel x < fuel s) (sym (ap (λ (p : Outcome × State). p.1) k)) (apply_falls r s h (sym (ap (λ (p : Outcome × State). p.0) k)))

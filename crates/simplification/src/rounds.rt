@@ -7,7 +7,6 @@ ghost use Rattle.tables.specs.View.{view};
 use crate::attempts::apply_rule;
 use crate::rules::{Outcome, Rule};
 use model::Refusal;
-use slices::labels::count_standing;
 use tables::tables::Tables;
 
 /// labels at the start of a branch that simplification takes
@@ -25,11 +24,17 @@ fn run_rounds(tables: &mut Tables)
         if branch.end as usize != tables.code.rows.len() {
             break 'rounds;
         }
-        let stood = count_standing(tables.labels.rows.as_slice(), branch.start);
-        if stood > MAX_LABELS_AT_BRANCH {
-            break 'rounds;
+        // A rule of the project: the rounds are left from inside the loops over labels and over rules, so that neither
+        // loop is a chain or a function of its own.
+        let mut stood: usize = 0;
+        for label in tables.labels.rows.iter() {
+            if label.offset == Some(branch.start) {
+                stood += 1;
+                if stood > MAX_LABELS_AT_BRANCH {
+                    break 'rounds;
+                }
+            }
         }
-        // A rule of the project: this labelled loop is left, and begun anew, from inside a loop nested in it.
         for rule in [
             Rule::CutToNext,
             Rule::Redirect,

@@ -6,7 +6,7 @@ ghost use Rattle.buffer.specs.View.{view};
 use super::MachBuffer;
 use isa::InstructionSet;
 use model::Refusal;
-use model::rows::{Constant, UNKNOWN};
+use model::rows::Constant;
 use slices::bytes::is_alignment_number;
 use table_calls::deferred::{defer_trap, get_label_for_constant};
 use tables::capacities::MAX_CONSTANTS;
@@ -25,9 +25,7 @@ impl<S: InstructionSet + Drop> MachBuffer<S> {
         ensures tables { (result, view self.new) ≡ register_constant (S.meaning self.old.set) (view self.old) size align }
         ensures set { self.new.set ≡ self.old.set }
     {
-        if self.tables.broken {
-            return Err(Refusal::BrokenOff);
-        }
+        self.tables.unbroken()?;
         if size == 0 || size > 256 || !is_alignment_number(align) || align < self.set.align() {
             return Err(Refusal::BadConstant);
         }
@@ -38,7 +36,7 @@ impl<S: InstructionSet + Drop> MachBuffer<S> {
         self.tables.push_constant(Constant {
             size,
             align,
-            label: UNKNOWN,
+            label: None,
         });
         Ok(number as u32)
     }

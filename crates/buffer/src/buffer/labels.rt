@@ -7,7 +7,6 @@ ghost use Rattle.buffer.specs.View.{view};
 use super::MachBuffer;
 use isa::InstructionSet;
 use model::Refusal;
-use model::rows::UNKNOWN;
 use simplification::rounds::{optimize_branches, simplify};
 use std::alloc::{AllocError, Global};
 use table_calls::labels::get_label;
@@ -38,9 +37,7 @@ impl<S: InstructionSet + Drop> MachBuffer<S> {
         ensures tables { (result, view self.new) ≡ bind_label (S.meaning self.old.set) (view self.old) label skip }
         ensures set { self.new.set ≡ self.old.set }
     {
-        if self.tables.broken {
-            return Err(Refusal::BrokenOff);
-        }
+        self.tables.unbroken()?;
         if self.tables.opened.is_some() {
             return Err(Refusal::RegionOpen);
         }
@@ -48,7 +45,7 @@ impl<S: InstructionSet + Drop> MachBuffer<S> {
             return Err(Refusal::NoSuchLabel);
         }
         let row = self.tables.labels.rows[label as usize];
-        if row.offset != UNKNOWN || row.alias != UNKNOWN || row.reserved {
+        if row.offset.is_some() || row.alias.is_some() || row.reserved {
             return Err(Refusal::AlreadyBound);
         }
         if cur_offset(&self.tables) % self.set.align() != 0 {

@@ -1,5 +1,5 @@
 // Branches that stand.
-ghost use Rattle.std.specs.Prelude.{◌≡◌, ◌+◌, ◌<◌, ◌≤◌, [], ◌∷◌, ◌++◌, length, if◌then◌else◌, Some, None, IfSome, vec_len, slice_index_or};
+ghost use Rattle.std.specs.Prelude.{◌≡◌, ◌+◌, ◌-◌, ◌<◌, ◌≤◌, [], ◌∷◌, ◌++◌, length, take, if◌then◌else◌, Some, None, IfSome, vec_len, slice_index_or};
 ghost use Rattle.std.specs.Option.{option_copied};
 ghost use Rattle.model.specs.Simplify.{no_branch, last_branch, branch_before, adjoins, forgotten};
 ghost use Rattle.model.specs.State.{with_branches};
@@ -79,12 +79,25 @@ impl Tables {
         });
     }
 
+    // The last branch stands no longer.
+    fn pop_branch(&mut self) -> Branch
+        requires { 0 < vec_len self.old.branches.rows }
+        ensures branch { result ≡ last_branch (view self.old) }
+        ensures rest { view self.new ≡ with_branches (view self.old) (take (length self.old.branches.rows.items - 1) self.old.branches.rows.items) }
+        ensures within { result.start ≤ vec_len self.new.code.rows }
+        ensures waiting { result.fixup < vec_len self.new.fresh.rows }
+        ensures before { Within result.start self.new.branches.rows.items }
+        ensures earlier { Waiting result.fixup self.new.branches.rows.items }
+    {
+        self.branches.rows.take_last()
+    }
+
     /// The last branch goes, with its bytes and its fixup.
     pub fn drop_last_branch(&mut self)
         requires { 0 < vec_len self.old.branches.rows }
         ensures { view self.new ≡ drop_last (view self.old) }
     {
-        let last = self.branches.rows.take_last();
+        let last = self.pop_branch();
         self.code.rows.truncate(last.start as usize);
         let _ = self.fresh.rows.pop();
     }

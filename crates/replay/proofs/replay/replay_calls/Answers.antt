@@ -24,17 +24,17 @@ loop-call-preserved g c =
     }
 
 -- all calls are made
-all_made : (g : given.Over) (c : goal.After-waiting_len g)
+all_made : (g : given.Over) (c : goal.After-from g)
     → Follows (g.S.InstructionSet.meaning c.args.set) c.args.calls.now (vec_items c.loop-call.answers) (view c.loop-call.session.buffer)
 all_made g c =
     rw (take_all c.loop-call.call-index c.args.calls.now (omega arith), c.in_ok-session.ensures.1) at c.loop-call.invariant.follows
 
-counted : (g : given.Over) (c : goal.After-waiting_len g) → c.count_accepted-accepted.result ≡ accepted_among c.args.calls.now (vec_items c.loop-call.answers)
+counted : (g : given.Over) (c : goal.After-from g) → c.count_accepted-accepted.result ≡ accepted_among c.args.calls.now (vec_items c.loop-call.answers)
 counted g c = rw c.deref.ensures.value at c.count_accepted-accepted.ensures
 
 pub overflow_sub-removed : goal.overflow_sub-removed
 overflow_sub-removed g c =
-    waiting_within _ _ _ _ _ _ (all_made g c) (counted g c) c.waiting_len.ensures
+    waiting_within _ _ _ _ _ _ (all_made g c) (counted g c) (c.from.ensures ∙ c.waiting_len.ensures)
 
 pub returns : goal.returns
 returns g c =
@@ -42,7 +42,7 @@ returns g c =
       record {
         tables = h.tables;
         answers = h.answered;
-        counts = counts_are _ _ _ _ _ _ h (counted g c) c.waiting_len.ensures;
+        counts = counts_are _ _ _ _ _ _ h (counted g c) (c.from.ensures ∙ c.waiting_len.ensures);
         balanced = λ n. run_accounted (g.S.InstructionSet.meaning c.args.set) (take n (map call_of c.args.calls.now));
       },
       c.loop-call.invariant.set ∙ c.in_ok-session.ensures.1,

@@ -1,8 +1,12 @@
-use Rattle.std.proofs.Common.{◌≡◌, ℕ, ◌≤◌, true, drop}
+use Rattle.std.proofs.Common.{◌≡◌, ℕ, ◌≤◌, true, take, drop}
+use Rattle.model.specs.Labels.{standing}
 use Rattle.model.specs.Simplify.{takes_branch, rounds, all_rounds}
 use Rattle.simplification.specs.Rules.{fuel, try_rules, all_rules}
 use Rattle.tables.specs.View.{view}
 use Rattle.simplification.proofs.rounds.run_rounds.Given as goal
+
+abbrev pub invariant-loop-label : goal.invariant-loop-label
+invariant-loop-label l = (l.stood ≤ 100) × (l.stood ≡ standing l.branch.start (take l.label-index l.label-items))
 
 abbrev pub invariant-loop-rule : goal.invariant-loop-rule
 invariant-loop-rule l =
