@@ -7,7 +7,7 @@ use bits::{Format, Piece};
 use isa::Role;
 use isa::words::WordSet;
 
-// imm14, times 4
+// A quarter of the displacement, in one piece.
 const IMM14: Format = Format::Pieces {
     pieces: &[Piece {
         at: 5,
@@ -17,7 +17,6 @@ const IMM14: Format = Format::Pieces {
     sign: 15,
 };
 
-// imm19, times 4
 const IMM19: Format = Format::Pieces {
     pieces: &[Piece {
         at: 5,
@@ -27,7 +26,6 @@ const IMM19: Format = Format::Pieces {
     sign: 20,
 };
 
-// imm26, times 4
 const IMM26: Format = Format::Pieces {
     pieces: &[Piece {
         at: 0,
@@ -37,7 +35,7 @@ const IMM26: Format = Format::Pieces {
     sign: 27,
 };
 
-// immlo and immhi
+// The lowest two bits of the displacement, immlo, and the others, immhi.
 const IMM_LO_HI: Format = Format::Pieces {
     pieces: &[
         Piece {

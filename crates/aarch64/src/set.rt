@@ -6,6 +6,8 @@ ghost use Rattle.aarch64.specs.Lawful.{aarch64_lawful};
 use bits::{read_word, sign_extend};
 use isa::{InstructionSet, Jump, Role, words};
 
+// Kinds are numbers: the interface takes and answers them, and an enum would only be converted to in each method.
+
 /// TBZ and TBNZ
 pub const BRANCH14: u32 = 0;
 /// B.cond, CBZ and CBNZ

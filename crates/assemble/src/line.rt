@@ -5,7 +5,7 @@ ghost use Rattle.assemble.specs.Meant.{call_meant};
 
 use crate::error::LineError;
 use crate::words::Words;
-use jump_report::text::SetName;
+use jump_report::text::{SetName, is_comment};
 use replay::Call;
 use std::alloc::Global;
 
@@ -72,8 +72,6 @@ impl ScriptCall {
 /// What a line says.
 #[derive(Drop)]
 pub enum Line {
-    /// it is passed over
-    Nothing,
     Set(SetName),
     Call(ScriptCall),
 }
@@ -89,12 +87,10 @@ const LATER: [&str; 6] = [
 ];
 
 fn unknown(name: &str) -> LineError {
-    for later in LATER {
-        if later == name {
-            return LineError::NotBuiltYet(later);
-        }
-    }
-    LineError::NoSuchCall
+    LATER
+        .into_iter()
+        .find(|later| *later == name)
+        .map_or(LineError::NoSuchCall, LineError::NotBuiltYet)
 }
 
 fn parse_question(name: &str, words: &mut Words) -> Result<Call<'static>, LineError> {
@@ -171,25 +167,16 @@ fn parse_call(name: &str, words: &mut Words) -> Result<ScriptCall, LineError> {
     }
 }
 
-fn parse_set(words: &mut Words) -> Result<SetName, LineError> {
-    match SetName::of_word(words.word("SET")?) {
-        Some(set) => Ok(set),
-        None => Err(LineError::NoSuchSet),
-    }
-}
-
-/// Reads a line.
-pub fn parse_line(heap: Global, text: &str) -> Result<Line, LineError> {
-    if text.is_empty() || text.starts_with('#') {
-        return Ok(Line::Nothing);
+/// Reads a line. One that asks nothing is passed over.
+pub fn parse_line(heap: Global, text: &str) -> Result<Option<Line>, LineError> {
+    if is_comment(text) {
+        return Ok(None);
     }
     let mut words = Words::new(heap, text);
-    let name = words.word("the call")?;
-    let line = if name == "set" {
-        Line::Set(parse_set(&mut words)?)
-    } else {
-        Line::Call(parse_call(name, &mut words)?)
+    let line = match words.word("the call")? {
+        "set" => Line::Set(words.word("SET")?.parse()?),
+        name => Line::Call(parse_call(name, &mut words)?),
     };
     words.end()?;
-    Ok(line)
+    Ok(Some(line))
 }

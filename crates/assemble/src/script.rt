@@ -39,10 +39,10 @@ impl Script {
 
     fn take_line(&mut self, heap: Global, text: String) -> Result<(), LineError> {
         match parse_line(heap, text.as_str())? {
-            Line::Nothing => return Ok(()),
-            Line::Set(_) if self.has_begun => return Err(LineError::SetTooLate),
-            Line::Set(set) => self.set = set,
-            Line::Call(call) => self.lines.push(ScriptLine { text, call })?,
+            None => return Ok(()),
+            Some(Line::Set(_)) if self.has_begun => return Err(LineError::SetTooLate),
+            Some(Line::Set(set)) => self.set = set,
+            Some(Line::Call(call)) => self.lines.push(ScriptLine { text, call })?,
         }
         self.has_begun = true;
         Ok(())
@@ -51,9 +51,7 @@ impl Script {
     /// Reads a script. Only a failing input is an error; a line that can't be read ends the script.
     pub fn read<R: BufRead + Drop>(heap: Global, input: R) -> io::Result<Script> {
         let mut script = Script::new(heap);
-        let mut number: u64 = 0;
-        for line in input.lines(heap) {
-            number = number.saturating_add(1);
+        for (number, line) in (1..).zip(input.lines(heap)) {
             let taken = match line {
                 Ok(text) => script.take_line(heap, text),
                 Err(e) if e.kind() == ErrorKind::InvalidData => Err(LineError::NotText),
@@ -71,10 +69,9 @@ impl Script {
     pub fn calls(&self, heap: Global) -> Result<Vec<Call<'_>>, AllocError>
         ensures { IfOk result (λ v. map call_of v.items ≡ calls_meant self.now) }
     {
-        let mut calls = Vec::new(heap);
-        for line in self.lines.iter() {
-            calls.push(line.call.as_call())?;
-        }
-        Ok(calls)
+        self.lines
+            .iter()
+            .map(|line| line.call.as_call())
+            .collect(heap)
     }
 }

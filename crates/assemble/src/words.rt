@@ -1,38 +1,27 @@
 // The words of a line.
 use crate::error::LineError;
 use jump_report::text::{HexError, parse_hex};
-use std::alloc::Global;
+use std::alloc::{AllocError, Global};
+use std::str::Split;
 
 /// The words of a line that are still to be read. Single spaces part them.
 #[derive(Drop)]
 pub struct Words<'a> {
     heap: Global,
-    rest: Option<&'a str>,
+    words: Split<'a, char>,
 }
 
 impl<'a> Words<'a> {
     pub fn new(heap: Global, line: &'a str) -> Words<'a> {
         Words {
             heap,
-            rest: Some(line),
+            words: line.split(' '),
         }
     }
 
     /// The next word. An error calls it by the name given.
     pub fn word(&mut self, name: &'static str) -> Result<&'a str, LineError> {
-        let Some(rest) = self.rest else {
-            return Err(LineError::Missing(name));
-        };
-        match rest.split_once(' ') {
-            Some((word, after)) => {
-                self.rest = Some(after);
-                Ok(word)
-            }
-            None => {
-                self.rest = None;
-                Ok(rest)
-            }
-        }
+        self.words.next().ok_or(LineError::Missing(name))
     }
 
     /// A decimal number.
@@ -41,10 +30,7 @@ impl<'a> Words<'a> {
         if word.starts_with('+') {
             return Err(LineError::NoNumber(name));
         }
-        match word.parse::<u32>() {
-            Ok(number) => Ok(number),
-            Err(_) => Err(LineError::NoNumber(name)),
-        }
+        word.parse().map_err(|_| LineError::NoNumber(name))
     }
 
     /// 0 or 1.
@@ -62,30 +48,20 @@ impl<'a> Words<'a> {
         if word == "-" {
             return Ok(Vec::new(self.heap));
         }
-        if word.is_empty() || has_upper_case(word) {
+        if word.is_empty() || word.bytes().any(|byte| byte.is_ascii_uppercase()) {
             return Err(LineError::NoBytes(name));
         }
-        match parse_hex(self.heap, word) {
-            Ok(bytes) => Ok(bytes),
-            Err(HexError::OutOfMemory) => Err(LineError::OutOfMemory),
-            Err(HexError::NotHex) => Err(LineError::NoBytes(name)),
-        }
+        parse_hex(self.heap, word).map_err(|error| match error {
+            HexError::OutOfMemory => LineError::OutOfMemory(AllocError),
+            HexError::NotHex => LineError::NoBytes(name),
+        })
     }
 
     /// There are no more words.
-    pub fn end(&self) -> Result<(), LineError> {
-        if self.rest.is_some() {
-            return Err(LineError::TooManyWords);
-        }
-        Ok(())
-    }
-}
-
-fn has_upper_case(word: &str) -> bool {
-    for byte in word.bytes() {
-        if byte.is_ascii_uppercase() {
-            return true;
+    pub fn end(mut self) -> Result<(), LineError> {
+        match self.words.next() {
+            None => Ok(()),
+            Some(_) => Err(LineError::TooManyWords),
         }
     }
-    false
 }

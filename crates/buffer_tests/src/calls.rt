@@ -182,49 +182,31 @@ fn refer<S: InstructionSet + Drop>(buffer: &mut MachBuffer<S>, call: Call) -> Re
     })
 }
 
-fn bind<S: InstructionSet + Drop>(
-    buffer: &mut MachBuffer<S>,
-    label: u32,
-    skip: bool,
-) -> Result<u32, Failure> {
-    buffer.bind_label(label, skip)?;
-    Ok(0)
-}
-
 fn bind_each<S: InstructionSet + Drop>(
     buffer: &mut MachBuffer<S>,
     first: u32,
     n: u32,
-) -> Result<u32, Failure> {
+) -> Result<(), Refusal> {
     for label in first..first.saturating_add(n) {
         buffer.bind_label(label, false)?;
     }
-    Ok(0)
+    Ok(())
 }
 
 // Makes a call that opens and closes no region.
 fn make<S: InstructionSet + Drop>(buffer: &mut MachBuffer<S>, call: Call) -> Result<u32, Failure> {
     Ok(match call {
         Call::Label => buffer.get_label()?,
-        Call::Bind(label) => bind(buffer, label, false)?,
-        Call::BindSkip(label) => bind(buffer, label, true)?,
-        Call::BindEach(first, n) => bind_each(buffer, first, n)?,
+        Call::Bind(label) => buffer.bind_label(label, false).map(|()| 0)?,
+        Call::BindSkip(label) => buffer.bind_label(label, true).map(|()| 0)?,
+        Call::BindEach(first, n) => bind_each(buffer, first, n).map(|()| 0)?,
         Call::Put(trap, len) => buffer.put_data(trap, front(&BYTES, len))?,
-        Call::Align(n) => {
-            buffer.align_to(n)?;
-            0
-        }
+        Call::Align(n) => buffer.align_to(n).map(|()| 0)?,
         Call::Defer(trap) => buffer.defer_trap(trap)?,
         Call::Register(size, align) => buffer.register_constant(size, align)?,
         Call::Constant(number) => buffer.get_label_for_constant(number)?,
-        Call::Simplify => {
-            buffer.optimize_branches(false)?;
-            0
-        }
-        Call::SimplifySkip => {
-            buffer.optimize_branches(true)?;
-            0
-        }
+        Call::Simplify => buffer.optimize_branches(false).map(|()| 0)?,
+        Call::SimplifySkip => buffer.optimize_branches(true).map(|()| 0)?,
         _ => refer(buffer, call)?,
     })
 }

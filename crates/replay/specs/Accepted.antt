@@ -9,32 +9,14 @@ use Rattle.replay.specs.Calls.{answer_of, call_of}
 
 -- an answered number is one use more
 abbrev pub is_number : model.Answer → Bool
-is_number model.Granted = false
 is_number (model.Number n) = true
-is_number (model.Closed r) = false
-is_number (model.YesNo b) = false
-is_number (model.Finished n) = false
-is_number (model.Refused e) = false
+is_number _ = false
 
 abbrev pub is_accepted : model.Call → model.Answer → Bool
-is_accepted model.GetLabel a = false
-is_accepted (model.BindLabel l skip) a = false
-is_accepted (model.PutData trap bytes) a = false
-is_accepted (model.AlignTo n) a = false
 is_accepted (model.UseLabelAtOffset l k bytes) a = is_number a
 is_accepted (model.AddUncondBranch l k bytes) a = is_number a
 is_accepted (model.AddCondBranch l k bytes inverted) a = is_number a
-is_accepted (model.DeferTrap trap) a = false
-is_accepted (model.RegisterConstant size align) a = false
-is_accepted (model.GetLabelForConstant n) a = false
-is_accepted (model.OptimizeBranches skip) a = false
-is_accepted model.StartPatchable a = false
-is_accepted model.EndPatchable a = false
-is_accepted (model.EmitIsland distance) a = false
-is_accepted (model.Finish force pool) a = false
-is_accepted model.CurOffset a = false
-is_accepted (model.ResolveLabelOffset l) a = false
-is_accepted (model.IslandNeeded distance) a = false
+is_accepted _ a = false
 
 -- how many calls had a use accepted
 abbrev pub accepted_among : List Call → List (Result Reply Refusal) → ℕ

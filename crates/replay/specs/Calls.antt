@@ -36,19 +36,6 @@ answer_of a = model.answer_of reply_of a
 
 -- a call that opens and closes no region
 abbrev pub is_plain : Call → Bool
-is_plain GetLabel = true
-is_plain (BindLabel l skip) = true
-is_plain (PutData trap bytes) = true
-is_plain (AlignTo n) = true
-is_plain (UseLabelAtOffset l k bytes) = true
-is_plain (AddUncondBranch l k bytes) = true
-is_plain (AddCondBranch l k bytes inverted) = true
-is_plain (DeferTrap trap) = true
-is_plain (RegisterConstant size align) = true
-is_plain (GetLabelForConstant n) = true
-is_plain (OptimizeBranches skip) = true
 is_plain StartPatchable = false
 is_plain EndPatchable = false
-is_plain CurOffset = true
-is_plain (ResolveLabelOffset l) = true
-is_plain (IslandNeeded distance) = true
+is_plain _ = true

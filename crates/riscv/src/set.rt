@@ -4,6 +4,8 @@ ghost use Rattle.riscv.specs.Lawful.{riscv_lawful};
 
 use isa::{InstructionSet, Jump, Role, words};
 
+// Kinds are numbers: the interface takes and answers them, and an enum would only be converted to in each method.
+
 /// BEQ, BNE, BLT, BGE, BLTU and BGEU
 pub const B12: u32 = 0;
 /// JAL

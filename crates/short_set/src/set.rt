@@ -5,6 +5,8 @@ ghost use Rattle.short_set.specs.Lawful.{short_lawful};
 use bits::write_word;
 use isa::{InstructionSet, Jump, Role, words};
 
+// Kinds are numbers: the interface takes and answers them, and an enum would only be converted to in each method.
+
 /// a branch on a test of the flags
 pub const BRANCH: u32 = 0;
 /// a jump

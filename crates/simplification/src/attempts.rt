@@ -66,7 +66,6 @@ fn redirect_labels(tables: &mut Tables) -> Outcome
 
 // Nothing falls into it: it is cut.
 fn cut_unreached(tables: &mut Tables) -> Outcome
-    requires { 0 < vec_len tables.old.branches.rows }
     ensures { (result, view tables.new) ≡ apply CutUnreached (view tables.old) }
 {
     match tables.adjoining_branch() {
@@ -80,7 +79,6 @@ fn cut_unreached(tables: &mut Tables) -> Outcome
 
 // The conditional before it only jumps over it: that is turned round, and it is cut.
 fn turn_before(tables: &mut Tables) -> Outcome
-    requires { 0 < vec_len tables.old.branches.rows }
     ensures { (result, view tables.new) ≡ apply TurnBefore (view tables.old) }
 {
     let Some(before) = tables.adjoining_branch() else {

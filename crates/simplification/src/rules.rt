@@ -14,6 +14,7 @@ pub enum Rule {
 }
 
 /// What came of a rule.
+// Three ways without a value: an Option or a ControlFlow over a flag would only lose their names.
 #[derive(Clone, Copy)]
 pub enum Outcome {
     /// it applied, and another round begins
