@@ -1,5 +1,5 @@
 -- Turning a conditional round.
-use Rattle.std.specs.Prelude.{◌≡◌, ℕ, ◌<◌, Bool, true, false, not, T, ◌∷◌, ◌==◌, ◌≢◌, nat_eq, refl}
+use Rattle.std.specs.Prelude.{◌≡◌, ℕ, ◌<◌, Bool, true, false, not, T, ◌∷◌, Some, Option, ◌==◌, ◌≢◌, nat_eq, refl}
 use Rattle.std.proofs.Common.{sym, ap, ◌∙◌, inl, inr, arith}
 use Rattle.std.proofs.lemmas.Bool.{eqb-true, and_parts, cases_Bool, cond-false, false≢true}
 use Rattle.bits.specs.Fields.{get, flip, piece}
@@ -28,39 +28,39 @@ not_flags w n d e =
     ]
 
 -- where the sense of a conditional's word stands
-test_sense : (w : ℕ) (c : Condition) (s : Bool) → test_role w ≡ Conditional c s → sense_bit w ≡ 24
+test_sense : (w : ℕ) (c : Condition) (s : Bool) → test_role w ≡ Some (Conditional c s) → sense_bit w ≡ 24
 test_sense w c s e =
     let t = (and_parts (get 25 6 w == 0x1b) (is_kept w) (passed _ _ c _ s e).test).0 in
     cond-false (is_flags w) 0 24 (not_flags w 0x1b refl (eqb-true (get 25 6 w) 0x1b t))
 
 -- a register's test keeps its place outside the sense
-register_turned : (f : Family) (n a b w : ℕ) (c : Condition) (s : Bool) → T (apart (piece 24 1 0) (piece a b 0)) → register_role f n (get a b w) w ≡ Conditional c s
-    → register_role f n (get a b (flip 24 w)) (flip 24 w) ≡ Conditional c (not s)
+register_turned : (f : Family) (n a b w : ℕ) (c : Condition) (s : Bool) → T (apart (piece 24 1 0) (piece a b 0)) → register_role f n (get a b w) w ≡ Some (Conditional c s)
+    → register_role f n (get a b (flip 24 w)) (flip 24 w) ≡ Some (Conditional c (not s))
 register_turned f n a b w c s t e =
     let k = get-flip 24 in
     let p = passed _ _ c _ s e in
-    rw (k a b w t, k 25 6 w tt, k 1 4 w tt, k 0 5 w tt, sense_flip 24 w, p.test, p.sense) (ap (λ (x : Condition). Conditional x (not s)) p.condition)
+    rw (k a b w t, k 25 6 w tt, k 1 4 w tt, k 0 5 w tt, sense_flip 24 w, p.test, p.sense) (ap (λ (x : Condition). Some (Conditional x (not s))) p.condition)
 
-flags_turned : (w : ℕ) (c : Condition) (s : Bool) → flags_role w ≡ Conditional c s → flags_role (flip 0 w) ≡ Conditional c (not s)
+flags_turned : (w : ℕ) (c : Condition) (s : Bool) → flags_role w ≡ Some (Conditional c s) → flags_role (flip 0 w) ≡ Some (Conditional c (not s))
 flags_turned w c s e =
     let k = get-flip 0 in
     let p = passed _ _ c _ s e in
-    rw (k 24 1 w tt, k 4 1 w tt, k 1 3 w tt, sense_flip 0 w, p.test, p.sense) (ap (λ (x : Condition). Conditional x (not s)) p.condition)
+    rw (k 24 1 w tt, k 4 1 w tt, k 1 3 w tt, sense_flip 0 w, p.test, p.sense) (ap (λ (x : Condition). Some (Conditional x (not s))) p.condition)
 
 -- by the two ways of a Branch19
-by_flags : (w : ℕ) (P : ℕ → Role → Type 0) → (is_flags w ≡ true → P 0 (flags_role w)) → (is_flags w ≡ false → P 24 (compare_role w)) → P (sense_bit w) (branch19_role w)
+by_flags : (w : ℕ) (P : ℕ → Option Role → Type 0) → (is_flags w ≡ true → P 0 (flags_role w)) → (is_flags w ≡ false → P 24 (compare_role w)) → P (sense_bit w) (branch19_role w)
 by_flags w P f g =
     elim (cases_Bool (is_flags w)) [
       | inl e ↦ rw e (f e)
       | inr e ↦ rw e (g e)
     ]
 
-test_turned : (w : ℕ) (c : Condition) (s : Bool) → test_role w ≡ Conditional c s → test_role (turned aarch64_words w) ≡ Conditional c (not s)
+test_turned : (w : ℕ) (c : Condition) (s : Bool) → test_role w ≡ Some (Conditional c s) → test_role (turned aarch64_words w) ≡ Some (Conditional c (not s))
 test_turned w c s e = ap (λ (p : ℕ). test_role (flip p w)) (test_sense w c s e) ∙ register_turned Bit 0x1b 19 5 w c s tt e
 
-turned_19 : (w : ℕ) (c : Condition) (s : Bool) → branch19_role w ≡ Conditional c s → branch19_role (turned aarch64_words w) ≡ Conditional c (not s)
+turned_19 : (w : ℕ) (c : Condition) (s : Bool) → branch19_role w ≡ Some (Conditional c s) → branch19_role (turned aarch64_words w) ≡ Some (Conditional c (not s))
 turned_19 w c s =
-    by_flags w (λ p r. r ≡ Conditional c s → branch19_role (flip p w) ≡ Conditional c (not s))
+    by_flags w (λ p r. r ≡ Some (Conditional c s) → branch19_role (flip p w) ≡ Some (Conditional c (not s)))
     (λ f e. rw (get-flip 0 25 7 w tt, f) (flags_turned w c s e))
     (λ f e. rw (get-flip 24 25 7 w tt, f) (register_turned Zero 0x1a 31 1 w c s tt e))
 
@@ -80,13 +80,13 @@ apart_19 w =
       | inr e ↦ rw e tt
     ]
 
-sense_19 : (w : ℕ) (c : Condition) (s : Bool) → branch19_role w ≡ Conditional c s → nat_eq (get (sense_bit w) 1 w) 1 ≡ s
+sense_19 : (w : ℕ) (c : Condition) (s : Bool) → branch19_role w ≡ Some (Conditional c s) → nat_eq (get (sense_bit w) 1 w) 1 ≡ s
 sense_19 w c s =
-    by_flags w (λ p r. r ≡ Conditional c s → nat_eq (get p 1 w) 1 ≡ s)
+    by_flags w (λ p r. r ≡ Some (Conditional c s) → nat_eq (get p 1 w) 1 ≡ s)
     (λ f e. (passed _ _ c _ s e).sense) (λ f e. (passed _ _ c _ s e).sense)
 
 -- and different families
-place_19 : (v w : ℕ) (c : Condition) (s : Bool) → branch19_role v ≡ Conditional c s → branch19_role w ≡ Conditional c s → sense_bit v ≡ sense_bit w
+place_19 : (v w : ℕ) (c : Condition) (s : Bool) → branch19_role v ≡ Some (Conditional c s) → branch19_role w ≡ Some (Conditional c s) → sense_bit v ≡ sense_bit w
 place_19 v w c s e f =
     elim (cases_Bool (is_flags v)) [
       | inl a ↦ elim (cases_Bool (is_flags w)) [
@@ -103,10 +103,10 @@ place_19 v w c s e f =
     apart l m n o g h = let z : ◌≡◌ {A = ℕ} 0 1 = ap (λ (x : Condition). family_index x.family) (g ∙ sym h) in omega arith
 
 -- only words of the first two kinds are conditional
-by_kind : (P : ℕ → Type 0) (w : ℕ) (c : Condition) (s : Bool) → (test_role w ≡ Conditional c s → P 0) → (branch19_role w ≡ Conditional c s → P 1)
-    → (k : ℕ) → k < 6 → role_of k w ≡ Conditional c s → P k
+by_kind : (P : ℕ → Type 0) (w : ℕ) (c : Condition) (s : Bool) → (test_role w ≡ Some (Conditional c s) → P 0) → (branch19_role w ≡ Some (Conditional c s) → P 1)
+    → (k : ℕ) → k < 6 → role_of k w ≡ Some (Conditional c s) → P k
 by_kind P w c s f g =
-    below_6 (λ k. role_of k w ≡ Conditional c s → P k) f g (λ e. absurd (no_conditional _ c s e))
+    below_6 (λ k. role_of k w ≡ Some (Conditional c s) → P k) f g (λ e. absurd (no_conditional _ c s e))
     (λ e. absurd (never_conditional c s e)) (λ e. absurd (never_conditional c s e)) (λ e. absurd (never_conditional c s e))
 
 pub conditionals : Conditionals aarch64_words
@@ -131,6 +131,6 @@ conditionals = record {
         role_turned = turned_19 w c s e;
       })
       k;
-  one_place = λ k v w c s. by_kind (λ k. role_of k w ≡ Conditional c s → sense_bit v ≡ sense_bit w) v c s
+  one_place = λ k v w c s. by_kind (λ k. role_of k w ≡ Some (Conditional c s) → sense_bit v ≡ sense_bit w) v c s
       (λ e f. test_sense v c s e ∙ sym (test_sense w c s f)) (place_19 v w c s) k;
 }

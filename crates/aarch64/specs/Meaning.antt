@@ -1,9 +1,10 @@
 -- What AArch64 means to a code buffer.
-use Rattle.std.specs.Prelude.{ℕ, Bool, cond, ◌&&◌, List, [], ◌∷◌, ◌++◌, length, take, drop, pos, ◌+ℤ◌, ◌==◌, nat_le, nat_lt, slice_index}
+use Rattle.std.specs.Prelude.{ℕ, Bool, cond, ◌&&◌, List, [], ◌∷◌, ◌++◌, length, take, drop, pos, ◌+ℤ◌, Some, None, Option, ◌==◌, nat_le, nat_lt, slice_index}
+use Rattle.std.specs.Option.{option_or}
 use Rattle.bits.specs.Formats.{reading}
 use Rattle.bits.specs.Words.{word, to_bytes}
-use Rattle.isa.specs.declared.jumps.Found.{Found}
-use Rattle.isa.specs.declared.jumps.Found.TheVariants.{Veneer, NoJump}
+use Rattle.isa.specs.declared.jumps.Jump.{Jump}
+use Rattle.isa.specs.declared.jumps.Jump.TheVariants.{Veneer}
 use Rattle.isa.specs.Isa.{Isa, Veneer as VeneerCode}
 use Rattle.isa.specs.Words.{Encoding, reads, patched, outside, role, rest, inverted, branch_at_head}
 use Rattle.aarch64.specs.Fields.{format}
@@ -33,12 +34,12 @@ is_long_veneer code =
     nat_le 20 (length code) && (word_at code 0 == 0x98000090 && (word_at code 4 == 0x10000071 && (word_at code 8 == 0x8b110210 && word_at code 12 == 0xd61f0200)))
 
 -- a long veneer at the head of the code leads to the target of its word of data
-abbrev pub long_jump : List ℕ → Found
-long_jump code = cond (is_long_veneer code) (Veneer (pos 16 +ℤ reading (format 5) (take 4 (drop 16 code)))) NoJump
+abbrev pub long_jump : List ℕ → Option Jump
+long_jump code = cond (is_long_veneer code) (Some (Veneer (pos 16 +ℤ reading (format 5) (take 4 (drop 16 code))))) None
 
--- what stands at the head of the code
-abbrev pub jump_at_head : List ℕ → Found
-jump_at_head code = branch_at_head aarch64_words (0 ∷ 1 ∷ 2 ∷ []) code (long_jump code)
+-- what jumps at the head of the code
+abbrev pub jump_at_head : List ℕ → Option Jump
+jump_at_head code = option_or (branch_at_head aarch64_words (0 ∷ 1 ∷ 2 ∷ []) code) (long_jump code)
 
 abbrev pub aarch64 : Isa
 aarch64 = record {

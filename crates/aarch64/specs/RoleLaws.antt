@@ -1,5 +1,5 @@
 -- The roles: they ignore the field, and one kind at most gives one.
-use Rattle.std.specs.Prelude.{◌≡◌, ℕ, zero, suc, ◌<◌, true, cond, List, [], ◌∷◌, ◌==◌, refl}
+use Rattle.std.specs.Prelude.{◌≡◌, ℕ, zero, suc, ◌<◌, true, cond, List, [], ◌∷◌, None, is_some, ◌==◌, refl}
 use Rattle.std.proofs.Common.{sym, ap, ◌∙◌, inl, inr, arith, lit≤}
 use Rattle.std.proofs.lemmas.Bool.{eqb-true, ne_eqb, and_parts, cases_Bool, false≢true}
 use Rattle.bits.specs.declared.pieces.Piece.{Piece}
@@ -7,8 +7,6 @@ use Rattle.bits.specs.Fields.{get, piece}
 use Rattle.bits.specs.Words.{word}
 use Rattle.bits.proofs.FormatLaws.{same_outside}
 use Rattle.bits.proofs.OneField.{get-get}
-use Rattle.isa.specs.declared.jumps.Role.TheVariants.{NoBranch}
-use Rattle.isa.specs.Roles.{is_branch}
 use Rattle.isa.proofs.Conditionals.{tested}
 use Rattle.aarch64.specs.Meaning.{aarch64}
 use Rattle.aarch64.specs.Roles.{is_kept, is_flags}
@@ -47,7 +45,7 @@ low_5 : (n : ℕ) → n ≡ 5 → get 0 5 n ≡ 5
 unfolding get
 low_5 n e = rw e
 
-role_owner : (k : ℕ) (b : List ℕ) → is_branch (aarch64.role k b) ≡ true → k ≡ owner (get 25 6 (word 4 b))
+role_owner : (k : ℕ) (b : List ℕ) → is_some (aarch64.role k b) ≡ true → k ≡ owner (get 25 6 (word 4 b))
 role_owner zero b p =
     let w = word 4 b in
     rw (eqb-true (get 25 6 w) 0x1b (and_parts (get 25 6 w == 0x1b) (is_kept w) (tested _ _ p)).0)
@@ -63,10 +61,10 @@ role_owner (suc (suc zero)) b p =
     owned_jump (get 25 6 w) (get-get 25 6 1 5 w (lit≤ tt) ∙ sym (get-get 26 6 0 5 w (lit≤ tt)) ∙ low_5 (get 26 6 w) e)
 role_owner (suc (suc (suc k))) b p =
     let n = suc (suc (suc k)) in
-    absurd (false≢true (sym (ap is_branch none) ∙ p))
+    absurd (false≢true (sym (ap is_some none) ∙ p))
   where
-    none : aarch64.role (suc (suc (suc k))) b ≡ NoBranch
+    none : aarch64.role (suc (suc (suc k))) b ≡ None
     none = rw (ne_eqb (suc (suc (suc k))) 0 (λ h. omega arith), ne_eqb (suc (suc (suc k))) 1 (λ h. omega arith), ne_eqb (suc (suc (suc k))) 2 (λ h. omega arith))
 
-pub role_once : (k j : ℕ) (b : List ℕ) → is_branch (aarch64.role k b) ≡ true → is_branch (aarch64.role j b) ≡ true → k ≡ j
+pub role_once : (k j : ℕ) (b : List ℕ) → is_some (aarch64.role k b) ≡ true → is_some (aarch64.role j b) ≡ true → k ≡ j
 role_once k j b p q = role_owner k b p ∙ sym (role_owner j b q)

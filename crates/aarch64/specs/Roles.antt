@@ -1,11 +1,11 @@
 -- The branches of AArch64, by the bits of their words, as the Arm Architecture Reference Manual draws them.
-use Rattle.std.specs.Prelude.{ℕ, Bool, cond, not, ◌&&◌, ◌==◌}
+use Rattle.std.specs.Prelude.{ℕ, Bool, cond, not, ◌&&◌, Some, None, Option, ◌==◌}
 use Rattle.bits.specs.Fields.{get}
 use Rattle.isa.specs.declared.jumps.Condition.{Condition}
 use Rattle.isa.specs.declared.jumps.Family.{Family}
 use Rattle.isa.specs.declared.jumps.Family.TheVariants.{Flags, Zero, Bit}
 use Rattle.isa.specs.declared.jumps.Role.{Role}
-use Rattle.isa.specs.declared.jumps.Role.TheVariants.{Unconditional, Conditional, NoBranch}
+use Rattle.isa.specs.declared.jumps.Role.TheVariants.{Unconditional, Conditional}
 
 abbrev pub condition : Family → ℕ → ℕ → Condition
 condition f test register = record { family = f; test = test; first = register; second = 0 }
@@ -16,16 +16,16 @@ is_kept w = not (get 1 4 w == 8)
 
 -- A test of a register, by bits 30 to 25 of the word. The register is in bits 4 to 0; bit 24 tells the two of a pair
 -- apart.
-abbrev pub register_role : Family → ℕ → ℕ → ℕ → Role
+abbrev pub register_role : Family → ℕ → ℕ → ℕ → Option Role
 register_role f opcode test w =
-    cond (get 25 6 w == opcode && is_kept w) (Conditional (condition f test (get 0 5 w)) (get 24 1 w == 1)) NoBranch
+    cond (get 25 6 w == opcode && is_kept w) (Some (Conditional (condition f test (get 0 5 w)) (get 24 1 w == 1))) None
 
 -- TBZ and TBNZ: bits 30 to 25 are 011011, and the bit number is in bits 23 to 19.
-abbrev pub test_role : ℕ → Role
+abbrev pub test_role : ℕ → Option Role
 test_role w = register_role Bit 0x1b (get 19 5 w) w
 
 -- CBZ and CBNZ: bits 30 to 25 are 011010, and bit 31 is the register's width.
-abbrev pub compare_role : ℕ → Role
+abbrev pub compare_role : ℕ → Option Role
 compare_role w = register_role Zero 0x1a (get 31 1 w) w
 
 -- B.cond: bits 31 to 25 are 0101010, and bits 24 and 4 are 0; with bit 4 set it is BC.cond. The condition is in
@@ -33,19 +33,19 @@ compare_role w = register_role Zero 0x1a (get 31 1 w) w
 abbrev pub is_flags : ℕ → Bool
 is_flags w = get 25 7 w == 0x2a
 
-abbrev pub flags_role : ℕ → Role
+abbrev pub flags_role : ℕ → Option Role
 flags_role w =
-    cond (get 24 1 w == 0 && (get 4 1 w == 0 && not (get 1 3 w == 7))) (Conditional (condition Flags (get 1 3 w) 0) (get 0 1 w == 1)) NoBranch
+    cond (get 24 1 w == 0 && (get 4 1 w == 0 && not (get 1 3 w == 7))) (Some (Conditional (condition Flags (get 1 3 w) 0) (get 0 1 w == 1))) None
 
-abbrev pub branch19_role : ℕ → Role
+abbrev pub branch19_role : ℕ → Option Role
 branch19_role w = cond (is_flags w) (flags_role w) (compare_role w)
 
 -- B: bits 31 to 26 are 000101.
-abbrev pub jump_role : ℕ → Role
-jump_role w = cond (get 26 6 w == 5) Unconditional NoBranch
+abbrev pub jump_role : ℕ → Option Role
+jump_role w = cond (get 26 6 w == 5) (Some Unconditional) None
 
-abbrev pub role_of : ℕ → ℕ → Role
-role_of k w = cond (k == 0) (test_role w) (cond (k == 1) (branch19_role w) (cond (k == 2) (jump_role w) NoBranch))
+abbrev pub role_of : ℕ → ℕ → Option Role
+role_of k w = cond (k == 0) (test_role w) (cond (k == 1) (branch19_role w) (cond (k == 2) (jump_role w) None))
 
 -- the bit that holds the sense
 abbrev pub sense_bit : ℕ → ℕ

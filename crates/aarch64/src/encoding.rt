@@ -65,12 +65,12 @@ impl WordSet for AArch64 {
         }
     }
 
-    fn role_of_word(&self, kind: u32, code: u32) -> Role {
+    fn role_of_word(&self, kind: u32, code: u32) -> Option<Role> {
         match kind {
             BRANCH14 => test_role_of(code),
             BRANCH19 => branch19_role_of(code),
             BRANCH26 => jump_role_of(code),
-            _ => Role::NoBranch,
+            _ => None,
         }
     }
 

@@ -24,44 +24,44 @@ fn is_kept_register(code: u32) -> bool
 }
 
 // A test of a register, by the opcode and by what is tested of the register.
-fn register_role_of(code: u32, opcode: u32, family: Family, test: u32) -> Role
+fn register_role_of(code: u32, opcode: u32, family: Family, test: u32) -> Option<Role>
     ensures { result ≡ register_role family opcode test code }
 {
     if get_field(code, 25, 6) == opcode && is_kept_register(code) {
-        Role::Conditional {
+        Some(Role::Conditional {
             condition: condition_of(family, test, get_field(code, 0, 5)),
             sense: get_field(code, 24, 1) == 1,
-        }
+        })
     } else {
-        Role::NoBranch
+        None
     }
 }
 
 // TBZ and TBNZ.
-pub fn test_role_of(code: u32) -> Role
+pub fn test_role_of(code: u32) -> Option<Role>
     ensures { result ≡ test_role code }
 {
     register_role_of(code, 0x1b, Family::Bit, get_field(code, 19, 5))
 }
 
 // CBZ and CBNZ.
-fn compare_role_of(code: u32) -> Role
+fn compare_role_of(code: u32) -> Option<Role>
     ensures { result ≡ compare_role code }
 {
     register_role_of(code, 0x1a, Family::Zero, get_field(code, 31, 1))
 }
 
 // B.cond, and words beside it that are none.
-fn flags_role_of(code: u32) -> Role
+fn flags_role_of(code: u32) -> Option<Role>
     ensures { result ≡ flags_role code }
 {
     if get_field(code, 24, 1) == 0 && get_field(code, 4, 1) == 0 && get_field(code, 1, 3) != 7 {
-        Role::Conditional {
+        Some(Role::Conditional {
             condition: condition_of(Family::Flags, get_field(code, 1, 3), 0),
             sense: get_field(code, 0, 1) == 1,
-        }
+        })
     } else {
-        Role::NoBranch
+        None
     }
 }
 
@@ -72,7 +72,7 @@ fn has_flags(code: u32) -> bool
 }
 
 // B.cond, CBZ and CBNZ.
-pub fn branch19_role_of(code: u32) -> Role
+pub fn branch19_role_of(code: u32) -> Option<Role>
     ensures { result ≡ branch19_role code }
 {
     if has_flags(code) {
@@ -83,14 +83,10 @@ pub fn branch19_role_of(code: u32) -> Role
 }
 
 // B.
-pub fn jump_role_of(code: u32) -> Role
+pub fn jump_role_of(code: u32) -> Option<Role>
     ensures { result ≡ jump_role code }
 {
-    if get_field(code, 26, 6) == 5 {
-        Role::Unconditional
-    } else {
-        Role::NoBranch
-    }
+    (get_field(code, 26, 6) == 5).then_some(Role::Unconditional)
 }
 
 // The bit that holds the sense.

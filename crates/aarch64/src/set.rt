@@ -4,7 +4,7 @@ ghost use Rattle.aarch64.specs.Meaning.{aarch64, is_long_veneer, long_jump, word
 ghost use Rattle.aarch64.specs.Lawful.{aarch64_lawful};
 
 use bits::{read_word, sign_extend};
-use isa::{Found, InstructionSet, Role, words};
+use isa::{InstructionSet, Jump, Role, words};
 
 // Kinds are numbers: the interface takes and answers them, and an enum would only be converted to in each method.
 
@@ -80,15 +80,15 @@ fn begins_long_veneer(code: &[u8]) -> bool
 }
 
 // A long veneer at the head of the code leads to the target of its word of data.
-fn long_jump_of(code: &[u8]) -> Found
+fn long_jump_of(code: &[u8]) -> Option<Jump>
     ensures { result ≡ long_jump code.now }
 {
     if begins_long_veneer(code) {
-        Found::Veneer {
+        Some(Jump::Veneer {
             displacement: 16 + sign_extend(word_of(code, 16), 31),
-        }
+        })
     } else {
-        Found::NoJump
+        None
     }
 }
 
@@ -135,7 +135,7 @@ impl InstructionSet for AArch64 {
         words::patch(self, kind, bytes, displacement);
     }
 
-    fn role(&self, kind: u32, bytes: &[u8]) -> Role {
+    fn role(&self, kind: u32, bytes: &[u8]) -> Option<Role> {
         words::role(self, kind, bytes)
     }
 
@@ -169,10 +169,9 @@ impl InstructionSet for AArch64 {
         &[0x1f, 0xc1, 0, 0]
     }
 
-    fn find(&self, code: &[u8], offset: usize) -> Found {
-        match words::find(self, &[BRANCH14, BRANCH19, BRANCH26], code, offset) {
-            Some(branch) => branch,
-            None => long_jump_of(words::code_from(code, offset)),
-        }
+    fn find(&self, code: &[u8], offset: usize) -> Option<Jump> {
+        words::find(self, &[BRANCH14, BRANCH19, BRANCH26], code, offset).or_else(|| long_jump_of(
+            words::code_from(code, offset),
+        ))
     }
 }

@@ -1,16 +1,15 @@
 -- Sets whose displacements stand in formats of `bits`: the laws of fields, and of finding a branch, once for all.
-use Rattle.std.proofs.Common.{◌≡◌, ℕ, ◌%◌, ◌^◌, ◌<◌, true, T, List, ◌++◌, length, drop, ℤ, pos, nat_abs, sym, ap, ◌∙◌, subst}
+use Rattle.std.proofs.Common.{◌≡◌, ℕ, ◌%◌, ◌^◌, ◌<◌, true, T, List, ◌++◌, length, drop, ℤ, pos, Some, is_some, nat_abs, sym, ap, ◌∙◌, subst}
 use lib.Signed.{mag}
 use Rattle.bits.specs.Formats.{Format, width, reading, patching, clearing}
 use Rattle.bits.specs.Words.{Octets}
 use Rattle.bits.proofs.FormatLaws.{top, good, Fresh, length-patching, octets_patching, reading-patching, clearing-patching, determined}
-use Rattle.isa.specs.declared.jumps.Found.{Found}
-use Rattle.isa.specs.declared.jumps.Found.TheVariants.{Branch}
+use Rattle.isa.specs.declared.jumps.Jump.{Jump}
+use Rattle.isa.specs.declared.jumps.Jump.TheVariants.{Branch}
 use Rattle.isa.specs.declared.jumps.Role.{Role}
-use Rattle.isa.specs.Finding.{is_branch_at, branch_among}
+use Rattle.isa.specs.Finding.{role_at, branch_among}
 use Rattle.isa.specs.Isa.{Isa, Reaches, Patchable}
 use Rattle.isa.specs.Laws.{OfKind}
-use Rattle.isa.specs.Roles.{is_branch}
 use Rattle.isa.proofs.Finding.{holds, found}
 
 -- each kind's field is a good format for multiples of 2 ^ e, and holds what the kind reaches
@@ -49,20 +48,19 @@ module _ {i : Isa} {f : ℕ → Format} {e : ℕ} (s : Formatted i f e) where
 
   -- a set that tries some kinds in turn finds each patched branch, if its kind is tried and no other takes the code
   -- for a branch
-  module _ (ks : List ℕ) (other : List ℕ → Found)
-      (finds : (code : List ℕ) (at : ℕ) → i.find code at ≡ branch_among i.size i.role i.reads ks (drop at code) (other (drop at code)))
+  module _ (ks : List ℕ)
+      (finds : (code : List ℕ) (at : ℕ) (j : Jump) → branch_among i.size i.role i.reads ks (drop at code) ≡ Some j → i.find code at ≡ Some j)
       (ignores : (k : ℕ) (b c : List ℕ) → OfKind i k b → OfKind i k c → i.outside k b ≡ i.outside k c → i.role k b ≡ i.role k c)
-      (tried : (k : ℕ) (b : List ℕ) → OfKind i k b → is_branch (i.role k b) ≡ true → T (holds k ks))
-      (alone : (k j : ℕ) (b after : List ℕ) → OfKind i k b → is_branch (i.role k b) ≡ true → is_branch_at (i.size j) (i.role j) (b ++ after) ≡ true → j ≡ k) where
-    pub finds_branch : (k : ℕ) (b : List ℕ) (d : ℤ) (before after : List ℕ) → Patchable i k b d → is_branch (i.role k b) ≡ true
-        → i.find (before ++ (i.patched k b d ++ after)) (length before) ≡ Branch (i.role k b) (i.size k) d
-    finds_branch k b d before after p t =
+      (tried : (k : ℕ) (b : List ℕ) → OfKind i k b → is_some (i.role k b) ≡ true → T (holds k ks))
+      (alone : (k j : ℕ) (b after : List ℕ) → OfKind i k b → is_some (i.role k b) ≡ true → is_some (role_at (i.size j) (i.role j) (b ++ after)) ≡ true → j ≡ k) where
+    pub finds_branch : (k : ℕ) (b : List ℕ) (d : ℤ) (before after : List ℕ) (r : Role) → Patchable i k b d → i.role k b ≡ Some r
+        → i.find (before ++ (i.patched k b d ++ after)) (length before) ≡ Some (Branch r (i.size k) d)
+    finds_branch k b d before after r p t =
         let q = i.patched k b d in
         let long = patched_long k b d p in
         let of-b : OfKind i k b = record { kind = p.kind; long = p.long } in
         let of-q : OfKind i k q = record { kind = p.kind; long = long } in
-        let same = ignores k q b of-q of-b (outside_patched k b d p) in
-        let is : is_branch (i.role k q) ≡ true = ap is_branch same ∙ t in
-        finds (before ++ (q ++ after)) (length before)
-        ∙ found i.size i.role i.reads k ks q before after other (tried k b of-b t) long is (λ j h. alone k j q after of-q is h)
-        ∙ ap (λ (r : Role). Branch r (i.size k) (i.reads k q)) same ∙ ap (Branch (i.role k b) (i.size k)) (reads_patched k b d p)
+        let is : i.role k q ≡ Some r = ignores k q b of-q of-b (outside_patched k b d p) ∙ t in
+        finds (before ++ (q ++ after)) (length before) _
+        (found i.size i.role i.reads k ks q before after r (tried k b of-b (ap is_some t)) long is (λ j h. alone k j q after of-q (ap is_some is) h))
+        ∙ ap (λ (x : ℤ). Some (Branch r (i.size k) x)) (reads_patched k b d p)

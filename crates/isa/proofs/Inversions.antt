@@ -1,5 +1,5 @@
 -- Turning conditionals round, for every set of words.
-use Rattle.std.proofs.Common.{◌≡◌, ℕ, ◌+◌, ◌<◌, Bool, not, T, eqb, leb, List, ◌∷◌, length, sym, ap, ◌∙◌, arith, lit<, leb→le}
+use Rattle.std.proofs.Common.{◌≡◌, ℕ, ◌+◌, ◌<◌, Bool, not, T, eqb, leb, List, ◌∷◌, length, Some, sym, ap, ◌∙◌, arith, lit<, leb→le}
 use Rattle.bits.specs.declared.pieces.Piece.{Piece}
 use Rattle.bits.specs.Fields.{get, piece, scatter, clear, laid}
 use Rattle.bits.specs.Formats.{pieces}
@@ -21,12 +21,12 @@ pub record Turning (e : Encoding) (k w : ℕ) (c : Condition) (s : Bool) : Type 
   pub apart : T (laid 32 (piece (e.sense w) 1 0 ∷ field))
   pub sense_is : eqb (get (e.sense w) 1 w) 1 ≡ s
   pub sense_turned : e.sense (turned e w) ≡ e.sense w
-  pub role_turned : e.role k (turned e w) ≡ Conditional c (not s)
+  pub role_turned : e.role k (turned e w) ≡ Some (Conditional c (not s))
 
 -- and of all of them: those of one role have their sense in one place
 pub record Conditionals (e : Encoding) : Type 0 where
-  pub turning : (k w : ℕ) (c : Condition) (s : Bool) → k < e.kinds → e.role k w ≡ Conditional c s → Turning e k w c s
-  pub one_place : (k v w : ℕ) (c : Condition) (s : Bool) → k < e.kinds → e.role k v ≡ Conditional c s → e.role k w ≡ Conditional c s → e.sense v ≡ e.sense w
+  pub turning : (k w : ℕ) (c : Condition) (s : Bool) → k < e.kinds → e.role k w ≡ Some (Conditional c s) → Turning e k w c s
+  pub one_place : (k v w : ℕ) (c : Condition) (s : Bool) → k < e.kinds → e.role k v ≡ Some (Conditional c s) → e.role k w ≡ Some (Conditional c s) → e.sense v ≡ e.sense w
 
 module _ {e : Encoding} (t : Conditionals e) where
   pub inverted_long : (b : List ℕ) → length (inverted e b) ≡ 4
@@ -35,7 +35,7 @@ module _ {e : Encoding} (t : Conditionals e) where
   pub inverted_octets : (b : List ℕ) → Octets (inverted e b)
   inverted_octets b = octets_to_bytes 4 (turned e (word 4 b))
 
-  module _ (k : ℕ) (b : List ℕ) (c : Condition) (s : Bool) (h : k < e.kinds) (is : role e k b ≡ Conditional c s) where
+  module _ (k : ℕ) (b : List ℕ) (c : Condition) (s : Bool) (h : k < e.kinds) (is : role e k b ≡ Some (Conditional c s)) where
     here : Turning e k (word 4 b) c s
     here = t.turning k (word 4 b) c s h is
 
@@ -51,7 +51,7 @@ module _ {e : Encoding} (t : Conditionals e) where
     word_turned : word 4 (inverted e b) ≡ turned e (word 4 b)
     word_turned = word-flip 4 (e.sense (word 4 b)) b low
 
-    pub inverted_role : role e k (inverted e b) ≡ Conditional c (not s)
+    pub inverted_role : role e k (inverted e b) ≡ Some (Conditional c (not s))
     inverted_role = ap (e.role k) word_turned ∙ here.role_turned
 
     pub inverted_reads : reads e k (inverted e b) ≡ reads e k b
@@ -68,7 +68,7 @@ module _ {e : Encoding} (t : Conditionals e) where
         rw here.format_is (put-fits 32 (e.sense (word 4 b)) 1 (scatter here.field (word 4 b) 0) 0 (leb→le _ _ (and_left _ _ here.apart))
         (scatter-fits 32 here.field (word 4 b) 0 lies (word_fits 4 b)) (lit< tt))
 
-  pub rest_outside : (k : ℕ) (b c : List ℕ) (x : Condition) (s : Bool) → k < e.kinds → role e k b ≡ Conditional x s → role e k c ≡ Conditional x s
+  pub rest_outside : (k : ℕ) (b c : List ℕ) (x : Condition) (s : Bool) → k < e.kinds → role e k b ≡ Some (Conditional x s) → role e k c ≡ Some (Conditional x s)
       → rest e k b ≡ rest e k c → outside e k b ≡ outside e k c
   rest_outside k b c x s h f g r =
       let v = word 4 b in

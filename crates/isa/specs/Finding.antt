@@ -1,19 +1,19 @@
 -- Finding a branch at the head of some code: the kinds are tried in turn.
-use Rattle.std.specs.Prelude.{ℕ, Bool, cond, ◌&&◌, List, [], ◌∷◌, length, take, ℤ, nat_le}
-use Rattle.isa.specs.declared.jumps.Found.{Found}
-use Rattle.isa.specs.declared.jumps.Found.TheVariants.{Branch}
+use Rattle.std.specs.Prelude.{ℕ, cond, List, [], ◌∷◌, length, take, ℤ, None, Option, option_map, nat_le}
+use Rattle.std.specs.Option.{option_or}
+use Rattle.isa.specs.declared.jumps.Jump.{Jump}
+use Rattle.isa.specs.declared.jumps.Jump.TheVariants.{Branch}
 use Rattle.isa.specs.declared.jumps.Role.{Role}
-use Rattle.isa.specs.Roles.{is_branch}
 
--- the head of the code is a branch of a kind that has so many bytes
-abbrev pub is_branch_at : ℕ → (List ℕ → Role) → List ℕ → Bool
-is_branch_at size role code = nat_le size (length code) && is_branch (role (take size code))
+-- the role of the head of the code, as a use of a kind that has so many bytes
+abbrev pub role_at : ℕ → (List ℕ → Option Role) → List ℕ → Option Role
+role_at size role code = cond (nat_le size (length code)) (role (take size code)) None
 
-abbrev pub branch_at : ℕ → (List ℕ → Role) → (List ℕ → ℤ) → List ℕ → Found
-branch_at size role reads code = Branch (role (take size code)) size (reads (take size code))
+-- the branch that the head of the code is, as such a use
+abbrev pub branch_at : ℕ → (List ℕ → Option Role) → (List ℕ → ℤ) → List ℕ → Option Jump
+branch_at size role reads code = option_map (λ r. Branch r size (reads (take size code))) (role_at size role code)
 
--- the branch of the first of some kinds that the head of the code is one of, else what else there is
-abbrev pub branch_among : (ℕ → ℕ) → (ℕ → List ℕ → Role) → (ℕ → List ℕ → ℤ) → List ℕ → List ℕ → Found → Found
-branch_among size role reads [] code other = other
-branch_among size role reads (k ∷ ks) code other =
-    cond (is_branch_at (size k) (role k) code) (branch_at (size k) (role k) (reads k) code) (branch_among size role reads ks code other)
+-- the branch of the first of some kinds that the head of the code is one of
+abbrev pub branch_among : (ℕ → ℕ) → (ℕ → List ℕ → Option Role) → (ℕ → List ℕ → ℤ) → List ℕ → List ℕ → Option Jump
+branch_among size role reads [] code = None
+branch_among size role reads (k ∷ ks) code = option_or (branch_at (size k) (role k) (reads k) code) (branch_among size role reads ks code)

@@ -3,9 +3,9 @@
 -- A set has kinds of use, numbered from 0. A use of a kind is `size` bytes of code that refer to a label by a
 -- displacement, which is the label's offset less the use's own. Everything above this crate is proved over any
 -- value of this record that keeps the laws of `Laws`, so no proof there knows a concrete set.
-use Rattle.std.specs.Prelude.{◌≡◌, ℕ, ◌+◌, ◌%◌, ◌<◌, Bool, true, List, ◌++◌, length, take, drop, ℤ, pos, ◌+ℤ◌, ◌≤ℤ◌, unsigned_abs}
+use Rattle.std.specs.Prelude.{◌≡◌, ℕ, ◌+◌, ◌%◌, ◌<◌, Bool, true, List, ◌++◌, length, take, drop, ℤ, pos, ◌+ℤ◌, ◌≤ℤ◌, Option, unsigned_abs}
 use Rattle.isa.specs.declared.jumps.Role.{Role}
-use Rattle.isa.specs.declared.jumps.Found.{Found}
+use Rattle.isa.specs.declared.jumps.Jump.{Jump}
 
 -- A veneer is a longer jump on behalf of a use. Its own use, of kind `own`, stands `place` bytes into it.
 pub record Veneer : Type 0 where
@@ -23,7 +23,7 @@ pub record Isa : Type 0 where
   pub reads : ℕ → List ℕ → ℤ  -- the displacement that the bytes hold
   pub patched : ℕ → List ℕ → ℤ → List ℕ  -- the bytes with a displacement
   pub outside : ℕ → List ℕ → List ℕ  -- the bytes with the field of the displacement cleared
-  pub role : ℕ → List ℕ → Role
+  pub role : ℕ → List ℕ → Option Role  -- of bytes that are a branch
   pub rest : ℕ → List ℕ → List ℕ  -- the bytes of a conditional with the field and the sense cleared
   pub inverted : ℕ → List ℕ → List ℕ  -- the bytes of a conditional with the other sense
   pub supports : ℕ → Bool  -- the kind has a veneer
@@ -31,7 +31,7 @@ pub record Isa : Type 0 where
   pub chain : ℕ → ℕ  -- how many veneers can follow one another from a use of the kind
   pub worst : ℕ  -- the length of the longest veneer
   pub trap : List ℕ
-  pub find : List ℕ → ℕ → Found  -- what stands at an offset of some code, by the code's bytes alone
+  pub find : List ℕ → ℕ → Option Jump  -- what jumps at an offset of some code, by the code's bytes alone
 
 -- a displacement that a use of kind k can hold
 pub record Reaches (i : Isa) (k : ℕ) (d : ℤ) : Type 0 where

@@ -1,12 +1,12 @@
 -- The laws that every instruction set proves of its meaning.
-use Rattle.std.specs.Prelude.{◌≡◌, ℕ, ◌+◌, ◌%◌, ◌^◌, ◌<◌, ◌≤◌, Bool, true, false, not, ◌⊎◌, List, ◌++◌, length, ℤ, pos, ◌+ℤ◌}
+use Rattle.std.specs.Prelude.{◌≡◌, ℕ, ◌+◌, ◌%◌, ◌^◌, ◌<◌, ◌≤◌, Bool, true, false, not, ◌⊎◌, List, ◌++◌, length, ℤ, pos, ◌+ℤ◌, Some, None, Option, is_some}
 use Rattle.bits.specs.Words.{Octets}
 use Rattle.isa.specs.declared.jumps.Condition.{Condition}
-use Rattle.isa.specs.declared.jumps.Role.TheVariants.{Unconditional, Conditional, NoBranch}
-use Rattle.isa.specs.declared.jumps.Found.{Found}
-use Rattle.isa.specs.declared.jumps.Found.TheVariants.{Branch, Veneer, NoJump}
+use Rattle.isa.specs.declared.jumps.Role.{Role}
+use Rattle.isa.specs.declared.jumps.Role.TheVariants.{Unconditional, Conditional}
+use Rattle.isa.specs.declared.jumps.Jump.{Jump}
+use Rattle.isa.specs.declared.jumps.Jump.TheVariants.{Branch, Veneer}
 use Rattle.isa.specs.Isa.{Isa, Veneer as VeneerCode, Patchable, bytes_at, patched_at}
-use Rattle.isa.specs.Roles.{is_branch}
 
 -- bytes of kind k: as many as it patches
 pub record OfKind (i : Isa) (k : ℕ) (b : List ℕ) : Type 0 where
@@ -35,10 +35,10 @@ pub record VeneerBounds (i : Isa) (k : ℕ) (v : VeneerCode) : Type 0 where
   pub chain_falls : i.chain k ≡ 1 + i.chain v.own
 
 -- what is found leads to one place, whatever holds: a veneer, or an unconditional branch
-abbrev pub Leads : Found → ℤ → Type 0
-Leads (Branch r n d) e = (r ≡ Unconditional) × (d ≡ e)
-Leads (Veneer d) e = d ≡ e
-Leads NoJump e = ⊥
+abbrev pub Leads : Option Jump → ℤ → Type 0
+Leads None e = ⊥
+Leads (Some (Branch r n d)) e = (r ≡ Unconditional) × (d ≡ e)
+Leads (Some (Veneer d)) e = d ≡ e
 
 pub record Lawful (i : Isa) : Type 0 where
   -- the alignment is 1, 2, 4 or 8
@@ -57,17 +57,17 @@ pub record Lawful (i : Isa) : Type 0 where
   -- the role ignores the field
   pub role_outside : (k : ℕ) (b c : List ℕ) → OfKind i k b → OfKind i k c → i.outside k b ≡ i.outside k c → i.role k b ≡ i.role k c
   -- at most one kind gives bytes a role
-  pub role_once : (k j : ℕ) (b : List ℕ) → OfKind i k b → OfKind i j b → is_branch (i.role k b) ≡ true → is_branch (i.role j b) ≡ true → k ≡ j
+  pub role_once : (k j : ℕ) (b : List ℕ) → OfKind i k b → OfKind i j b → is_some (i.role k b) ≡ true → is_some (i.role j b) ≡ true → k ≡ j
   -- an adding kind gives none
-  pub adds_no_branch : (k : ℕ) (b : List ℕ) → OfKind i k b → i.adds k ≡ true → i.role k b ≡ NoBranch
+  pub adds_no_branch : (k : ℕ) (b : List ℕ) → OfKind i k b → i.adds k ≡ true → i.role k b ≡ None
   -- inverted bytes have the same condition, the other sense, the same displacement and the same rest
   pub inverted_long : (k : ℕ) (b : List ℕ) → OfKind i k b → length (i.inverted k b) ≡ i.size k
   pub inverted_octets : (k : ℕ) (b : List ℕ) → OfKind i k b → Octets (i.inverted k b)
-  pub inverted_role : (k : ℕ) (b : List ℕ) (c : Condition) (s : Bool) → OfKind i k b → i.role k b ≡ Conditional c s → i.role k (i.inverted k b) ≡ Conditional c (not s)
-  pub inverted_reads : (k : ℕ) (b : List ℕ) (c : Condition) (s : Bool) → OfKind i k b → i.role k b ≡ Conditional c s → i.reads k (i.inverted k b) ≡ i.reads k b
-  pub inverted_rest : (k : ℕ) (b : List ℕ) (c : Condition) (s : Bool) → OfKind i k b → i.role k b ≡ Conditional c s → i.rest k (i.inverted k b) ≡ i.rest k b
+  pub inverted_role : (k : ℕ) (b : List ℕ) (c : Condition) (s : Bool) → OfKind i k b → i.role k b ≡ Some (Conditional c s) → i.role k (i.inverted k b) ≡ Some (Conditional c (not s))
+  pub inverted_reads : (k : ℕ) (b : List ℕ) (c : Condition) (s : Bool) → OfKind i k b → i.role k b ≡ Some (Conditional c s) → i.reads k (i.inverted k b) ≡ i.reads k b
+  pub inverted_rest : (k : ℕ) (b : List ℕ) (c : Condition) (s : Bool) → OfKind i k b → i.role k b ≡ Some (Conditional c s) → i.rest k (i.inverted k b) ≡ i.rest k b
   -- the rest leaves out the sense alone
-  pub rest_outside : (k : ℕ) (b c : List ℕ) (x : Condition) (s : Bool) → OfKind i k b → OfKind i k c → i.role k b ≡ Conditional x s → i.role k c ≡ Conditional x s → i.rest k b ≡ i.rest k c → i.outside k b ≡ i.outside k c
+  pub rest_outside : (k : ℕ) (b c : List ℕ) (x : Condition) (s : Bool) → OfKind i k b → OfKind i k c → i.role k b ≡ Some (Conditional x s) → i.role k c ≡ Some (Conditional x s) → i.rest k b ≡ i.rest k c → i.outside k b ≡ i.outside k c
   -- veneers; a kind without one has no chain, and each veneer has one less than its use's, so chains are finite
   pub veneer_bounds : (k : ℕ) → k < i.kinds → i.supports k ≡ true → VeneerBounds i k (i.veneer k)
   pub no_chain : (k : ℕ) → i.supports k ≡ false → i.chain k ≡ 0
@@ -80,8 +80,8 @@ pub record Lawful (i : Isa) : Type 0 where
   pub trap_aligned : length i.trap % i.align ≡ 0
   pub trap_octets : Octets i.trap
   -- in any code, each patched branch is found where it begins: its role, its size and its displacement
-  pub finds_branch : (k : ℕ) (b : List ℕ) (d : ℤ) (before after : List ℕ) → Patchable i k b d → is_branch (i.role k b) ≡ true
-      → i.find (before ++ (i.patched k b d ++ after)) (length before) ≡ Branch (i.role k b) (i.size k) d
+  pub finds_branch : (k : ℕ) (b : List ℕ) (d : ℤ) (before after : List ℕ) (r : Role) → Patchable i k b d → i.role k b ≡ Some r
+      → i.find (before ++ (i.patched k b d ++ after)) (length before) ≡ Some (Branch r (i.size k) d)
   -- and so is each veneer: entering it leads to the target of its own use
   pub finds_veneer : (k : ℕ) (d : ℤ) (before after : List ℕ) → k < i.kinds → i.supports k ≡ true
       → Patchable i (i.veneer k).own (bytes_at i (i.veneer k).own (i.veneer k).code (i.veneer k).place) d

@@ -1,10 +1,10 @@
 -- Conditions compared, and opposite roles.
-use Rattle.std.specs.Prelude.{ℕ, Bool, true, false, cond, not, ◌&&◌, List, [], ◌∷◌, ◌==◌}
+use Rattle.std.specs.Prelude.{ℕ, Bool, true, false, cond, not, ◌&&◌, List, [], ◌∷◌, Some, None, Option, ◌==◌}
 use Rattle.isa.specs.declared.jumps.Family.{Family}
 use Rattle.isa.specs.declared.jumps.Family.TheVariants.{Flags, Zero, Bit, Compare}
 use Rattle.isa.specs.declared.jumps.Condition.{Condition}
 use Rattle.isa.specs.declared.jumps.Role.{Role}
-use Rattle.isa.specs.declared.jumps.Role.TheVariants.{Unconditional, Conditional, NoBranch}
+use Rattle.isa.specs.declared.jumps.Role.TheVariants.{Unconditional, Conditional}
 
 -- the place of a family in its list
 abbrev pub family_index : Family → ℕ
@@ -24,14 +24,9 @@ same (x ∷ xs) [] = false
 same (x ∷ xs) (y ∷ ys) = x == y && same xs ys
 
 -- two conditionals with one condition and two senses
-abbrev pub opposite : Role → Role → Bool
-opposite Unconditional r = false
-opposite (Conditional c s) Unconditional = false
-opposite (Conditional c s) (Conditional d t) = same_condition c d && cond s (not t) t
-opposite (Conditional c s) NoBranch = false
-opposite NoBranch r = false
-
-abbrev pub is_branch : Role → Bool
-is_branch Unconditional = true
-is_branch (Conditional c s) = true
-is_branch NoBranch = false
+abbrev pub opposite : Option Role → Option Role → Bool
+opposite None r = false
+opposite (Some Unconditional) r = false
+opposite (Some (Conditional c s)) None = false
+opposite (Some (Conditional c s)) (Some Unconditional) = false
+opposite (Some (Conditional c s)) (Some (Conditional d t)) = same_condition c d && cond s (not t) t

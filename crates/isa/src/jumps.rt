@@ -1,6 +1,4 @@
 // What bytes do when they are run: the words in which a set says it.
-ghost use Rattle.std.specs.Prelude.{◌≡◌};
-ghost use Rattle.isa.specs.Roles.{is_branch};
 
 /// What a conditional branch tests. Each is a way in which a processor tests; `Condition` says of what.
 #[derive(Clone, Copy, PartialEq, Eq, Debug)]
@@ -26,29 +24,18 @@ pub struct Condition {
     pub second: u32,
 }
 
-/// The role of a use's bytes.
+/// The role of a branch. A use's bytes have one exactly where they are a branch that the buffer may move or remove.
 #[derive(Clone, Copy, PartialEq, Eq, Debug)]
 pub enum Role {
     /// it always jumps
     Unconditional,
     /// it jumps where its condition's truth equals its sense
     Conditional { condition: Condition, sense: bool },
-    /// it is no branch that the buffer may move or remove
-    NoBranch,
 }
 
-impl Role {
-    /// Whether the bytes are a branch.
-    pub fn is_branch(self) -> bool
-        ensures { result ≡ is_branch self }
-    {
-        !matches!(self, Role::NoBranch)
-    }
-}
-
-/// What stands at an offset of some code. A displacement counts from that offset.
+/// What jumps at an offset of some code. A displacement counts from that offset.
 #[derive(Clone, Copy, PartialEq, Eq, Debug)]
-pub enum Found {
+pub enum Jump {
     /// a branch of `size` bytes
     Branch {
         role: Role,
@@ -59,6 +46,4 @@ pub enum Found {
     Veneer {
         displacement: i64,
     },
-    /// nothing that jumps
-    NoJump,
 }

@@ -77,19 +77,23 @@ pub fn checked_patch<S: InstructionSet>(
 }
 
 // Two conditionals with one condition and two senses.
-fn are_opposite(a: Role, b: Role) -> bool
+fn are_opposite(a: Option<Role>, b: Option<Role>) -> bool
     ensures { result ≡ opposite a b }
 {
     match (a, b) {
         (
-            Role::Conditional {
-                condition: x,
-                sense: s,
-            },
-            Role::Conditional {
-                condition: y,
-                sense: t,
-            },
+            Some(
+                Role::Conditional {
+                    condition: x,
+                    sense: s,
+                },
+            ),
+            Some(
+                Role::Conditional {
+                    condition: y,
+                    sense: t,
+                },
+            ),
         ) => x == y && s != t,
         _ => false,
     }

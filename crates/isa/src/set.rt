@@ -4,7 +4,7 @@ ghost use Rattle.isa.specs.Isa.{Isa, Patchable};
 ghost use Rattle.isa.specs.Laws.{Lawful, OfKind};
 ghost use Rattle.isa.specs.Roles.{same};
 
-use crate::jumps::{Found, Role};
+use crate::jumps::{Jump, Role};
 
 pub trait InstructionSet {
     // The meaning, which says what each method answers.
@@ -48,8 +48,8 @@ pub trait InstructionSet {
         requires { Patchable (meaning self.now) kind bytes.old displacement }
         ensures { bytes.new ≡ (meaning self.now).patched kind bytes.old displacement };
 
-    /// What the bytes do when they are run.
-    fn role(&self, kind: u32, bytes: &[u8]) -> Role
+    /// The role of the bytes, if they are a branch.
+    fn role(&self, kind: u32, bytes: &[u8]) -> Option<Role>
         requires { OfKind (meaning self.now) kind bytes.now }
         ensures { result ≡ (meaning self.now).role kind bytes.now };
 
@@ -92,8 +92,8 @@ pub trait InstructionSet {
     fn trap_opcode(&self) -> &[u8]
         ensures { result.now ≡ (meaning self.now).trap };
 
-    /// What stands at an offset of some code.
-    fn find(&self, code: &[u8], offset: usize) -> Found
+    /// What jumps at an offset of some code, if anything does.
+    fn find(&self, code: &[u8], offset: usize) -> Option<Jump>
         ensures { result ≡ (meaning self.now).find code.now offset };
 
     ghost lawful: { (s : Self) → Lawful (meaning s) };

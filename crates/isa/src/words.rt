@@ -2,16 +2,15 @@
 //
 // Such a set says where displacements stand in its words, which words are branches, and which bit is a
 // conditional's sense. What its methods do to bytes follows from that, and is written here once for all of them.
-ghost use Rattle.std.specs.Prelude.{◌≡◌, ℕ, ◌^◌, ◌<◌, ◌≤◌, length, drop, unwrap_or, IsTrue};
+ghost use Rattle.std.specs.Prelude.{◌≡◌, ◌^◌, ◌<◌, length, drop, IsTrue};
 ghost use Rattle.std.specs.List.{All};
 ghost use Rattle.std.specs.Int.Signed.{mag};
 ghost use Rattle.bits.specs.Formats.{format_of, good};
-ghost use Rattle.isa.specs.declared.jumps.Found.{Found as FoundValue};
-ghost use Rattle.isa.specs.Finding.{is_branch_at, branch_at};
+ghost use Rattle.isa.specs.Finding.{branch_at};
 ghost use Rattle.isa.specs.Roles.{same};
 ghost use Rattle.isa.specs.Words.{Encoding, reads, patched, role, turned, inverted, rest_word, rest, branch_at_head};
 
-use crate::jumps::{Found, Role};
+use crate::jumps::{Jump, Role};
 use bits::{Format, flip_bit, low_bits, put_field, read_word, write_word};
 
 /// What is particular to a set of words.
@@ -25,8 +24,8 @@ pub trait WordSet {
         ensures value { format_of result ≡ (encoding self.now).format kind }
         ensures good { IsTrue (good 32 (format_of result)) };
 
-    /// The role of a word as a use of a kind.
-    fn role_of_word(&self, kind: u32, code: u32) -> Role
+    /// The role of a word as a use of a kind, if it is a branch.
+    fn role_of_word(&self, kind: u32, code: u32) -> Option<Role>
         ensures { result ≡ (encoding self.now).role kind code };
 
     /// The bit that holds the sense.
@@ -57,8 +56,8 @@ pub fn patch<S: WordSet>(set: &S, kind: u32, bytes: &mut [u8], displacement: i64
     write_word(bytes, patched);
 }
 
-/// What the bytes do when they are run.
-pub fn role<S: WordSet>(set: &S, kind: u32, bytes: &[u8]) -> Role
+/// The role of the bytes, if they are a branch.
+pub fn role<S: WordSet>(set: &S, kind: u32, bytes: &[u8]) -> Option<Role>
     requires { length bytes.now ≡ 4 }
     ensures { result ≡ role (S.encoding set.now) kind bytes.now }
 {
@@ -99,44 +98,37 @@ pub fn code_from(code: &[u8], offset: usize) -> &[u8]
     &code[offset.min(code.len())..]
 }
 
-// Whether the head of the code is a branch, as a use of a kind.
-fn begins_branch<S: WordSet>(set: &S, kind: u32, code: &[u8]) -> bool
-    ensures { result ≡ is_branch_at 4 (role (S.encoding set.now) kind) code.now }
-{
-    code.len() >= 4 && role(set, kind, &code[0..4]).is_branch()
-}
-
-// The branch at the head of the code.
-fn branch_of<S: WordSet>(set: &S, kind: u32, code: &[u8]) -> Found
-    requires kind_bound { kind < (S.encoding set.now).kinds }
-    requires has_word { 4 ≤ length code.now }
+// The branch at the head of the code, as a use of a kind.
+fn branch_of<S: WordSet>(set: &S, kind: u32, code: &[u8]) -> Option<Jump>
+    requires { kind < (S.encoding set.now).kinds }
     ensures { result ≡ branch_at 4 (role (S.encoding set.now) kind) (reads (S.encoding set.now) kind) code.now }
 {
-    let head = &code[0..4];
-    Found::Branch {
-        role: role(set, kind, head),
+    let head = code.get(..4)?;
+    Some(Jump::Branch {
+        role: role(set, kind, head)?,
         size: 4,
         displacement: read(set, kind, head),
-    }
+    })
 }
 
 // The branch at the head of the code, of the first of some kinds that it is one of.
-fn branch_at_head<S: WordSet>(set: &S, kinds: &[u32], code: &[u8]) -> Option<Found>
+fn branch_at_head<S: WordSet>(set: &S, kinds: &[u32], code: &[u8]) -> Option<Jump>
     requires { All (λ k. k < (S.encoding set.now).kinds) kinds.now }
-    ensures { (other : FoundValue) → unwrap_or result other ≡ branch_at_head (S.encoding set.now) kinds.now code.now other }
+    ensures { result ≡ branch_at_head (S.encoding set.now) kinds.now code.now }
 {
     for kind in kinds {
-        if begins_branch(set, *kind, code) {
-            return Some(branch_of(set, *kind, code));
+        let branch = branch_of(set, *kind, code);
+        if branch.is_some() {
+            return branch;
         }
     }
     None
 }
 
 /// The branch at an offset of the code, of the first of some kinds that it is one of.
-pub fn find<S: WordSet>(set: &S, kinds: &[u32], code: &[u8], offset: usize) -> Option<Found>
+pub fn find<S: WordSet>(set: &S, kinds: &[u32], code: &[u8], offset: usize) -> Option<Jump>
     requires { All (λ k. k < (S.encoding set.now).kinds) kinds.now }
-    ensures { (other : FoundValue) → unwrap_or result other ≡ branch_at_head (S.encoding set.now) kinds.now (drop offset code.now) other }
+    ensures { result ≡ branch_at_head (S.encoding set.now) kinds.now (drop offset code.now) }
 {
     branch_at_head(set, kinds, code_from(code, offset))
 }

@@ -1,13 +1,12 @@
 -- What holds of a new buffer, and is kept by everything that a call may do to the tables, holds after every list of calls.
-use Rattle.std.proofs.Common.{◌≡◌, ℕ, ◌+◌, ◌%◌, ◌<◌, ◌≤◌, Bool, true, false, cond, not, ◌&&◌, ◌||◌, eqb, ltb, leb, List, [], ◌∷◌, ◌++◌, length, ℤ, pos, negsuc, Some, None, Option, refl, ap, arith}
+use Rattle.std.proofs.Common.{◌≡◌, ℕ, ◌+◌, ◌%◌, ◌<◌, ◌≤◌, Bool, true, false, cond, not, ◌&&◌, ◌||◌, eqb, ltb, leb, List, [], ◌∷◌, ◌++◌, length, ℤ, pos, negsuc, Some, None, Option, is_some, refl, ap, arith}
 use lib.ListN.{length-replicate}
 use Rattle.std.proofs.lemmas.Bool.{ltb-false, leb-false, eqb-true, and_parts, not-false, cond_both, false≢true, true≢false}
 use Rattle.std.proofs.lemmas.Bool.Decides.{nat_tests}
 use Rattle.isa.specs.declared.jumps.Role.{Role}
-use Rattle.isa.specs.declared.jumps.Role.TheVariants.{Unconditional, Conditional, NoBranch}
 use Rattle.isa.specs.Isa.{Isa}
 use Rattle.isa.specs.Patches.{inversion}
-use Rattle.isa.specs.Roles.{is_branch, opposite}
+use Rattle.isa.specs.Roles.{opposite}
 use Rattle.model.specs.declared.rows.Fixup.{Fixup}
 use Rattle.model.specs.declared.rows.DeferredTrap.{DeferredTrap}
 use Rattle.model.specs.declared.refusals.Refusal.{Refusal}
@@ -58,7 +57,7 @@ pub record Kept (i : Isa) (P R : State → Type 0) : Type 0 where
   pub simple : (s : State) → P s → P (simplified false s)
   pub data_put : (s : State) (trap : ℕ) (bytes : List ℕ) → P s → (0 < trap → length s.traps + length s.deferred < max_traps) → cur_offset s + length bytes ≤ max_code → P (with_code (add_trap s trap) (s.code ++ bytes))
   pub used : (s : State) (l k : ℕ) (bytes : List ℕ) → P s → Fits i s l k bytes → (i.adds k ≡ true → i.reads k bytes ≡ pos 0) → P (append_use i s l k bytes)
-  pub branched : (s : State) (l k : ℕ) (bytes : List ℕ) (inverted : Option (List ℕ)) → P s → Fits i s l k bytes → is_branch (i.role k bytes) ≡ true → length s.branches < max_branches → P (append_branch i s l k bytes inverted)
+  pub branched : (s : State) (l k : ℕ) (bytes : List ℕ) (inverted : Option (List ℕ)) → P s → Fits i s l k bytes → is_some (i.role k bytes) ≡ true → length s.branches < max_branches → P (append_branch i s l k bytes inverted)
   pub trap_deferred : (s : State) (trap : ℕ) → P s → length s.traps + length s.deferred < max_traps → length s.labels < max_labels → P (with_deferred (add_label s true) (s.deferred ++ record { label = length s.labels; code = trap } ∷ []))
   pub registered : (s : State) (size align : ℕ) → P s → is_constant i size align ≡ true → length s.constants < max_constants → P (with_constants s (s.constants ++ record { size = size; align = align; label = None } ∷ []))
   pub requested : (s : State) (n : ℕ) → P s → Unrequested s n → length s.requested + length s.placed < max_requests → length s.labels < max_labels → P (with_requested (with_constants (add_label s true) (label_constant s n (Some (length s.labels)))) (s.requested ++ n ∷ []))
@@ -91,15 +90,13 @@ zero_is : (d : ℤ) → is_zero d ≡ true → d ≡ pos 0
 zero_is (pos n) e = ap pos (eqb-true n 0 e)
 zero_is (negsuc n) e = absurd (false≢true e)
 
-jump_is_branch : (r : Role) → is_unconditional r ≡ true → is_branch r ≡ true
-jump_is_branch Unconditional e = refl
-jump_is_branch (Conditional c s) e = refl
-jump_is_branch NoBranch e = e
+jump_is_branch : (r : Option Role) → is_unconditional r ≡ true → is_some r ≡ true
+jump_is_branch None e = e
+jump_is_branch (Some r) e = refl
 
-opposite-is_branch : (r t : Role) → opposite r t ≡ true → is_branch r ≡ true
-opposite-is_branch Unconditional t e = refl
-opposite-is_branch (Conditional c s) t e = refl
-opposite-is_branch NoBranch t e = e
+opposite-is_branch : (r t : Option Role) → opposite r t ≡ true → is_some r ≡ true
+opposite-is_branch None t e = e
+opposite-is_branch (Some r) t e = refl
 
 -- the bytes of an adding kind read 0
 adding_reads : (a : Bool) (d : ℤ) → (not a || is_zero d) ≡ true → a ≡ true → d ≡ pos 0
@@ -144,7 +141,7 @@ module _ {i : Isa} {P R : State → Type 0} (w : Kept i P R) where
             (adding_reads _ _ parts.1);
       }))))))))
 
-  branch_keeps : (s : State) (suits : Bool) (l k : ℕ) (bytes : List ℕ) (inverted : Option (List ℕ)) → (suits ≡ true → (length bytes ≡ i.size k) × (is_branch (i.role k bytes) ≡ true)) → P s → After P (add_branch i s suits l k bytes inverted)
+  branch_keeps : (s : State) (suits : Bool) (l k : ℕ) (bytes : List ℕ) (inverted : Option (List ℕ)) → (suits ≡ true → (length bytes ≡ i.size k) × (is_some (i.role k bytes) ≡ true)) → P s → After P (add_branch i s suits l k bytes inverted)
   branch_keeps s suits l k bytes inverted h p =
       unless P s.broken _ s _ p (λ _. unless P (is_open s) _ s _ p (λ shut. unless P (no_label s l) _ s _ p (λ known. unless P (leb i.kinds k) _ s _ p (λ kind. unless P (not suits) _ s _ p (λ suit.
       unless P (misaligned i s) _ s _ p (λ at. unless P (fixups_full s) _ s _ p (λ full. unless P (branches_full s) _ s _ p (λ many. unless P (no_room s (length bytes)) _ s _ p (λ room.

@@ -1,5 +1,5 @@
 -- After every list of calls to a lawful set, the uses that wait are in place, and the code is not too long.
-use Rattle.std.proofs.Common.{◌≡◌, ℕ, ◌+◌, ◌-◌, ◌%◌, ◌<◌, ◌≤◌, Bool, true, false, ◌&&◌, ltb, leb, List, [], ◌∷◌, ◌++◌, map, length, get_or, take, drop, set, pos, Some, None, Option, sym, refl, ap, ◌∙◌, subst, ⊎_elim, append_assoc, arith, length-append, length-set, length-take}
+use Rattle.std.proofs.Common.{◌≡◌, ℕ, ◌+◌, ◌-◌, ◌%◌, ◌<◌, ◌≤◌, Bool, true, false, ◌&&◌, ltb, leb, List, [], ◌∷◌, ◌++◌, map, length, get_or, take, drop, set, pos, Some, None, Option, is_some, sym, refl, ap, ◌∙◌, subst, ⊎_elim, append_assoc, arith, length-append, length-set, length-take}
 use lib.IntN.{sub_ℕ}
 use lib.ListN.{length-replicate}
 use Rattle.std.specs.List.{AllByRecursion}
@@ -8,7 +8,6 @@ use Rattle.std.proofs.ByRecursion.{All-get_or, All-from_get_or, All-push, All-we
 use Rattle.std.proofs.lemmas.Bool.{and_parts, leb-true, cases_lt, cases_eq, cond_both, cases_Bool, false≢true}
 use Rattle.isa.specs.Isa.{Isa, bytes_at, patched_at}
 use Rattle.isa.specs.Laws.{OfKind, VeneerBounds, Lawful}
-use Rattle.isa.specs.Roles.{is_branch}
 use Rattle.model.specs.declared.rows.Label.{Label}
 use Rattle.model.specs.declared.rows.Fixup.{Fixup}
 use Rattle.model.specs.declared.rows.Branch.{Branch}
@@ -298,10 +297,10 @@ module _ (i : Isa) (y : Lawful i) where
       (uses_appended s l k bytes o f z) (served_push s _ o)
 
   -- the bytes of a branch are of a kind that does not add
-  branch_adds_not : (k : ℕ) (bytes : List ℕ) → OfKind i k bytes → is_branch (i.role k bytes) ≡ true → i.adds k ≡ false
-  branch_adds_not k bytes f b = ⊎_elim (λ e. absurd (false≢true (sym (ap is_branch (y.adds_no_branch k bytes f e)) ∙ b))) (λ e. e) (cases_Bool (i.adds k))
+  branch_adds_not : (k : ℕ) (bytes : List ℕ) → OfKind i k bytes → is_some (i.role k bytes) ≡ true → i.adds k ≡ false
+  branch_adds_not k bytes f b = ⊎_elim (λ e. absurd (false≢true (sym (ap is_some (y.adds_no_branch k bytes f e)) ∙ b))) (λ e. e) (cases_Bool (i.adds k))
 
-  branched_orderly : (s : State) (l k : ℕ) (bytes : List ℕ) (inverted : Option (List ℕ)) → Orderly i s → Fits i s l k bytes → is_branch (i.role k bytes) ≡ true → length s.branches < max_branches → Orderly i (append_branch i s l k bytes inverted)
+  branched_orderly : (s : State) (l k : ℕ) (bytes : List ℕ) (inverted : Option (List ℕ)) → Orderly i s → Fits i s l k bytes → is_some (i.role k bytes) ≡ true → length s.branches < max_branches → Orderly i (append_branch i s l k bytes inverted)
   branched_orderly s l k bytes inverted o f b h =
       let no_sum = branch_adds_not k bytes (record { kind = f.kind; long = f.long }) b in
       let z : i.adds k ≡ true → i.reads k bytes ≡ pos 0 = λ a. absurd (false≢true (sym no_sum ∙ a)) in

@@ -3,7 +3,7 @@
 use Rattle.std.specs.Prelude.{ℕ, ◌+◌, ◌-◌, ◌%◌, Bool, true, false, cond, not, ◌&&◌, ◌||◌, List, [], ◌∷◌, ◌++◌, length, ℤ, pos, negsuc, is_some, Some, None, Ok, Err, Option, Result, ◌==◌, nat_le, nat_lt}
 use Rattle.std.specs.Option.{option_map}
 use Rattle.isa.specs.declared.jumps.Role.{Role}
-use Rattle.isa.specs.declared.jumps.Role.TheVariants.{Unconditional, Conditional, NoBranch}
+use Rattle.isa.specs.declared.jumps.Role.TheVariants.{Unconditional, Conditional}
 use Rattle.isa.specs.Isa.{Isa}
 use Rattle.isa.specs.Patches.{inversion}
 use Rattle.model.specs.declared.rows.Region.{Region}
@@ -127,10 +127,10 @@ add_branch i s suits l k bytes inverted =
     (Ok (cur_offset s), append_branch i s l k bytes inverted)))))))))
 
 -- a role is to jump always
-abbrev pub is_unconditional : Role → Bool
-is_unconditional Unconditional = true
-is_unconditional (Conditional c b) = false
-is_unconditional NoBranch = false
+abbrev pub is_unconditional : Option Role → Bool
+is_unconditional None = false
+is_unconditional (Some Unconditional) = true
+is_unconditional (Some (Conditional c b)) = false
 
 -- the bytes of an unconditional branch
 abbrev pub is_jump : Isa → ℕ → List ℕ → Bool

@@ -3,7 +3,7 @@ use Rattle.std.proofs.Common.{◌≡◌, ℕ, zero, suc, ◌+◌, ◌≤◌, Boo
 use lib.IntN.{sub_ℕ}
 use lib.ListN.{get_or-eq_default}
 use Rattle.isa.specs.declared.jumps.Role.{Role}
-use Rattle.isa.specs.declared.jumps.Found.{Found}
+use Rattle.isa.specs.declared.jumps.Jump.{Jump}
 use Rattle.readings.specs.Walk.{Step, stop, on, here, RunsOff}
 use Rattle.readings.specs.Agree.{Agrees}
 use Rattle.readings.specs.Draft.{Truth, jumps, Draft, Item, item, gap, Position, at, Destination, the_piece, the_kept, placing, enter, pieces_among, pass, draft_step}
@@ -42,7 +42,7 @@ module _ {P Q X : Type 0} (first : P → Step P X) (second : Q → Step Q X) whe
   agrees_way p t q (comes n x w) a = agrees_after p t q w a
 
 module _ (D : Draft) (L : List Cell) (T : Labels) (t f : ℕ) (grows : Grows D L T t f) (all : length D.items ≤ t)
-    (found : ℕ → Found) (reads : ℕ → ℕ → ℤ) (written : AllWritten found reads L)
+    (found : ℕ → Option Jump) (reads : ℕ → ℕ → ℤ) (written : AllWritten found reads L)
     (place : ℕ → Option ℕ) (tied : (l q : ℕ) → Resolves T l q ↔ (place l ≡ Some q)) (τ : Truth) where
   abbrev draft : Position → Step Position Destination
   draft = draft_step D τ

@@ -1,6 +1,6 @@
 -- What is known of offsets in one layout, carried over to the next; and with it what is known of cells and labels.
 use Rattle.std.proofs.Common.{◌≡◌, ℕ, suc, ◌+◌, List, ◌∷◌, ◌∙◌, subst, inl, inr, true≢false}
-use Rattle.isa.specs.declared.jumps.Role.TheVariants.{Unconditional, Conditional, NoBranch}
+use Rattle.isa.specs.declared.jumps.Role.TheVariants.{Unconditional, Conditional}
 use Rattle.readings.specs.Walk.{Step, RunsOff}
 use Rattle.readings.specs.Draft.{Truth, Draft, Position, at, to, Destination, draft_step}
 use Rattle.readings.specs.Layout.{Target, waits, fixed, Body, bytes, refers, jump, veneer, kept, blank, Cell, cell, total, Each, Entry, free, stands, alias, Labels, Resolves, found, through, Patches}
@@ -30,7 +30,6 @@ module _ (D : Draft) (τ : Truth) where
     does_carry (refers c l x) p r q k s a = (a.0, a.1, a.2, carry any (at (suc a.0)) (q + k) s.0 a.3, aims_carry any (to l) x s.1 a.4)
     does_carry (jump Unconditional x) p r q k s a = (λ h. aims_carry moving p x s (a.0 h), λ h. absurd (true≢false h))
     does_carry (jump (Conditional c t) x) p r q k s a = (λ h. aims_carry moving p x s.1 (a.0 h), λ h. carry moving p (q + k) s.0 (a.1 h))
-    does_carry (jump NoBranch x) p r q k s a = (λ h. aims_carry moving p x s.1 (a.0 h), λ h. carry moving p (q + k) s.0 (a.1 h))
     does_carry (veneer c x) p r q k s a = aims_carry (below r) p x s a
     does_carry (kept l) p r q k s a = a
     does_carry blank p r q k s a = a

@@ -1,7 +1,7 @@
 -- The theorem: code in which a grown layout is written agrees with the draft from every start.
 use Rattle.std.proofs.Common.{◌≡◌, ℕ, suc, ◌+◌, ◌≤◌, true, ◌↔◌, List, length, ℤ, Some, None, Option, sym, ap, ◌∙◌, subst, inl, inr}
 use lib.IntN.{sub_ℕ}
-use Rattle.isa.specs.declared.jumps.Found.{Found}
+use Rattle.isa.specs.declared.jumps.Jump.{Jump}
 use Rattle.readings.specs.Walk.{RunsOff}
 use Rattle.readings.specs.Agree.{Agrees}
 use Rattle.readings.specs.Draft.{Truth, Draft, is_kept, piece, use_of, Position, at, to, draft_step}
@@ -22,7 +22,7 @@ use Rattle.readings.proofs.Unplaced.{dangles_nowhere}
 use Rattle.readings.proofs.Agreement.{agrees_at, Whole, whole}
 
 module _ (D : Draft) (L : List Cell) (T : Labels) (t f : ℕ) (grows : Grows D L T t f) (all : length D.items ≤ t)
-    (found : ℕ → Found) (reads : ℕ → ℕ → ℤ) (written : AllWritten found reads L)
+    (found : ℕ → Option Jump) (reads : ℕ → ℕ → ℤ) (written : AllWritten found reads L)
     (place : ℕ → Option ℕ) (tied : (l q : ℕ) → Resolves T l q ↔ (place l ≡ Some q)) (τ : Truth) where
   abbrev SameFrom : Position → ℕ → Type 0
   SameFrom p q = Agrees (draft_step D τ) (code_step D place found τ) p q

@@ -3,7 +3,7 @@
 use Rattle.std.proofs.Common.{◌≡◌, ℕ, ◌+◌, ◌<◌, ◌≤◌, true, ◌↔◌, List, length, Some, None, Option, sym, refl, ap, ◌∙◌, subst, inl, inr, arith}
 use lib.ListN.{get_or-eq_default}
 use native.Mathlib.Decide.{dec_lt}
-use Rattle.isa.specs.declared.jumps.Found.{Found}
+use Rattle.isa.specs.declared.jumps.Jump.{Jump}
 use Rattle.readings.specs.Walk.{stop}
 use Rattle.readings.specs.Draft.{Truth, Draft, Item, item, is_kept, piece, use_of, label, branch, gap, at, the_piece, the_kept, pieces_among}
 use Rattle.readings.specs.Code.{follow, piece_at, kept_at, arrive, code_step}
@@ -108,7 +108,7 @@ module _ (D : Draft) (L : List Cell) (T : Labels) (t f : ℕ) (grows : Grows D L
         let c = one_cell (λ x. x.body ≡ b) (λ x. Keeping m x.body) q L (grown_solid grows) here (kept_cell m q ((tied m q).1 p) (grown_kept grows m h)) in
         subst (Keeping m) c.1 c.2
 
-    module _ (found_at : ℕ → Found) (τ : Truth) where
+    module _ (found_at : ℕ → Option Jump) (τ : Truth) where
       -- a walk in the code stops at a piece, by its number among the pieces
       pub at_piece : (i q : ℕ) → Starts q (item D i) → code_step D place found_at τ q ≡ stop (the_piece (pieces_among i D.items))
       at_piece i q s = ap (λ x. arrive x (kept_at D.kept place q) (follow τ q (found_at q))) (finds_piece i q s)

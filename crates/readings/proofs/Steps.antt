@@ -2,8 +2,8 @@
 use Rattle.std.proofs.Common.{◌≡◌, ℕ, zero, suc, ◌+◌, ◌-◌, ◌<◌, Bool, true, false, cond, ◌||◌, eqb, ltb, List, [], ◌∷◌, get_or, ℤ, pos, negsuc, Some, None, Option, sym, refl, ap, ◌∙◌, true≢false, arith, ltb-false, ltb-true, lt-ltb, eq-eqb, ne_eqb}
 use mathlib.Core.Bool.{false≢true}
 use lib.IntN.{sub_ℕ}
-use Rattle.isa.specs.declared.jumps.Found.{Found}
-use Rattle.isa.specs.declared.jumps.Found.TheVariants.{Branch, Veneer, NoJump}
+use Rattle.isa.specs.declared.jumps.Jump.{Jump}
+use Rattle.isa.specs.declared.jumps.Jump.TheVariants.{Branch, Veneer}
 use Rattle.isa.specs.Laws.{Leads}
 use Rattle.model.specs.Labels.{is_at}
 use Rattle.model.proofs.Labels.{eq-is_at, is_at-true}
@@ -27,11 +27,11 @@ by_target n q = go (ltb n q) refl
         ap (λ (b : Bool). by q (cond b (negsuc (q - suc n)) (pos (n - q)))) h ∙ ap on there
 
 -- what leads to a displacement is followed there
-pub follow_leads : (τ : Truth) (q : ℕ) (y : Found) (d : ℤ) → Leads y d → follow τ q y ≡ by q d
-follow_leads τ q (Branch r n e) d a =
+pub follow_leads : (τ : Truth) (q : ℕ) (y : Option Jump) (d : ℤ) → Leads y d → follow τ q y ≡ by q d
+follow_leads τ q None d a = absurd a
+follow_leads τ q (Some (Branch r n e)) d a =
     ap (λ x. cond (jumps τ x) (by q e) (on (q + n))) a.0 ∙ ap (by q) a.1
-follow_leads τ q (Veneer e) d a = ap (by q) a
-follow_leads τ q NoJump d a = absurd a
+follow_leads τ q (Some (Veneer e)) d a = ap (by q) a
 
 -- a piece that begins at q
 abbrev pub Starts : ℕ → Item → Type 0

@@ -1,6 +1,6 @@
 -- The offsets that the cells of a layout speak of, and how far its fixed targets go.
 use Rattle.std.proofs.Common.{ℕ, ◌+◌, ◌≤◌, List, [], ◌∷◌, arith}
-use Rattle.isa.specs.declared.jumps.Role.TheVariants.{Unconditional, Conditional, NoBranch}
+use Rattle.isa.specs.declared.jumps.Role.TheVariants.{Unconditional, Conditional}
 use Rattle.readings.specs.Layout.{Target, waits, fixed, Body, bytes, refers, jump, veneer, kept, blank, Cell, total, Each, Fixes, in_piece, in_branch, in_veneer, Patches, patch_here, patch_there}
 use Rattle.readings.proofs.Cells.{each_map}
 
@@ -14,7 +14,6 @@ BodyIn S bytes end = S end
 BodyIn S (refers c l x) end = S end × TargetIn S x
 BodyIn S (jump Unconditional x) end = TargetIn S x
 BodyIn S (jump (Conditional c s) x) end = S end × TargetIn S x
-BodyIn S (jump NoBranch x) end = S end × TargetIn S x
 BodyIn S (veneer c x) end = TargetIn S x
 BodyIn S (kept l) end = Unit {0}
 BodyIn S blank end = Unit {0}
@@ -34,7 +33,6 @@ body_anywhere bytes end = tt
 body_anywhere (refers c l x) end = (tt, target_anywhere x)
 body_anywhere (jump Unconditional x) end = target_anywhere x
 body_anywhere (jump (Conditional c s) x) end = (tt, target_anywhere x)
-body_anywhere (jump NoBranch x) end = (tt, target_anywhere x)
 body_anywhere (veneer c x) end = target_anywhere x
 body_anywhere (kept l) end = tt
 body_anywhere blank end = tt
@@ -71,7 +69,6 @@ fixed_in n bytes end h s = h
 fixed_in n (refers c l x) end h s = (h, s)
 fixed_in n (jump Unconditional x) end h s = s
 fixed_in n (jump (Conditional c t) x) end h s = (h, s)
-fixed_in n (jump NoBranch x) end h s = (h, s)
 fixed_in n (veneer c x) end h s = s
 fixed_in n (kept l) end h s = tt
 fixed_in n blank end h s = tt

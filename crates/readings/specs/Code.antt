@@ -1,8 +1,8 @@
 -- A walk in the code, and what it means that draft and code agree.
 use Rattle.std.specs.Prelude.{◌≡◌, ℕ, suc, ◌+◌, ◌-◌, cond, List, [], ◌∷◌, ℤ, pos, negsuc, Some, None, Option, ◌==◌, nat_lt}
 use Rattle.std.proofs.Math.IntN.{sub_ℕ}
-use Rattle.isa.specs.declared.jumps.Found.{Found}
-use Rattle.isa.specs.declared.jumps.Found.TheVariants.{Branch, Veneer, NoJump}
+use Rattle.isa.specs.declared.jumps.Jump.{Jump}
+use Rattle.isa.specs.declared.jumps.Jump.TheVariants.{Branch, Veneer}
 use Rattle.model.specs.Labels.{is_at}
 use Rattle.readings.specs.Walk.{Step, stop, nowhere, on, RunsOff}
 use Rattle.readings.specs.Agree.{Agrees}
@@ -14,10 +14,10 @@ by q (pos n) = on (q + n)
 by q (negsuc n) = cond (nat_lt n q) (on (q - suc n)) nowhere
 
 -- a step by what an instruction set finds at an offset: a branch jumps or is passed, a veneer leads on
-abbrev pub follow : Truth → ℕ → Found → Step ℕ Destination
-follow τ q (Branch r n d) = cond (jumps τ r) (by q d) (on (q + n))
-follow τ q (Veneer d) = by q d
-follow τ q NoJump = nowhere
+abbrev pub follow : Truth → ℕ → Option Jump → Step ℕ Destination
+follow τ q None = nowhere
+follow τ q (Some (Branch r n d)) = cond (jumps τ r) (by q d) (on (q + n))
+follow τ q (Some (Veneer d)) = by q d
 
 -- the number of the piece that begins at an offset, where the first of these is the n-th
 abbrev pub piece_at : List Item → ℕ → ℕ → Option ℕ
@@ -41,12 +41,12 @@ arrive None None otherwise = otherwise
 
 -- A walk in the code arrives where a piece, a trap or a constant begins: a piece at the offset answered, the others at their
 -- label. Elsewhere it takes the branch or veneer that the set finds, or runs off at none.
-abbrev pub code_step : Draft → (ℕ → Option ℕ) → (ℕ → Found) → Truth → ℕ → Step ℕ Destination
+abbrev pub code_step : Draft → (ℕ → Option ℕ) → (ℕ → Option Jump) → Truth → ℕ → Step ℕ Destination
 code_step D place found τ q = arrive (piece_at D.items 0 q) (kept_at D.kept place q) (follow τ q (found q))
 
 -- Draft and code agree from every start, under one truth: from the beginning, from each label, from the end of each piece, and from each
 -- piece's use, which is its label in the draft and in the code the target that its bytes read.
-pub record Same (D : Draft) (place : ℕ → Option ℕ) (found : ℕ → Found) (reads : ℕ → ℕ → ℤ) (τ : Truth) : Type 0 where
+pub record Same (D : Draft) (place : ℕ → Option ℕ) (found : ℕ → Option Jump) (reads : ℕ → ℕ → ℤ) (τ : Truth) : Type 0 where
   pub from_beginning : Agrees (draft_step D τ) (code_step D place found τ) (at 0) 0
   pub from_label : (l q : ℕ) → place l ≡ Some q → Agrees (draft_step D τ) (code_step D place found τ) (to l) q
   pub from_unplaced : (l : ℕ) → place l ≡ None → RunsOff (draft_step D τ) (to l)

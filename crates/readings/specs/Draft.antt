@@ -3,7 +3,7 @@ use Rattle.std.specs.Prelude.{ℕ, zero, suc, Bool, true, false, cond, ◌||◌,
 use Rattle.std.specs.Bool.{beq}
 use Rattle.isa.specs.declared.jumps.Condition.{Condition}
 use Rattle.isa.specs.declared.jumps.Role.{Role}
-use Rattle.isa.specs.declared.jumps.Role.TheVariants.{Unconditional, Conditional, NoBranch}
+use Rattle.isa.specs.declared.jumps.Role.TheVariants.{Unconditional, Conditional}
 use Rattle.readings.specs.Walk.{Step, stop, nowhere, on}
 
 -- one truth for each condition
@@ -14,7 +14,6 @@ Truth = Condition → Bool
 abbrev pub jumps : Truth → Role → Bool
 jumps τ Unconditional = true
 jumps τ (Conditional c sense) = beq (τ c) sense
-jumps τ NoBranch = false
 
 -- what a call adds to the draft
 pub data Item : Type 0 where

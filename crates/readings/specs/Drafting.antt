@@ -1,5 +1,6 @@
 -- The draft of a list of calls: it is fed with nothing but the calls and their answers.
-use Rattle.std.specs.Prelude.{ℕ, cond, List, [], ◌∷◌, ◌++◌, length, ◌==◌}
+use Rattle.std.specs.Prelude.{ℕ, cond, List, [], ◌∷◌, ◌++◌, length, Some, None, Option, ◌==◌}
+use Rattle.isa.specs.declared.jumps.Role.{Role}
 use Rattle.isa.specs.Isa.{Isa}
 use Rattle.model.specs.Steps.{Call, GetLabel, BindLabel, PutData, AlignTo, UseLabelAtOffset, AddUncondBranch, AddCondBranch, DeferTrap, RegisterConstant, GetLabelForConstant, OptimizeBranches, StartPatchable, EndPatchable, EmitIsland, Finish, CurOffset, ResolveLabelOffset, IslandNeeded, Answer, Granted, Number, Closed, YesNo, Finished, Refused}
 use Rattle.readings.specs.Draft.{Item, piece, use_of, label, branch, gap, Draft}
@@ -11,6 +12,11 @@ blank_draft = record { items = []; kept = [] }
 -- items of which the last is what a call added
 abbrev pub with_item : Draft → Item → Draft
 with_item D x = record { items = D.items ++ x ∷ []; kept = D.kept }
+
+-- a branch to the label, where bytes have a role
+abbrev pub with_branch : Draft → ℕ → Option Role → Draft
+with_branch D l None = D
+with_branch D l (Some r) = with_item D (branch l r)
 
 -- the label answered is that of a trap or a constant
 abbrev pub with_kept : Draft → ℕ → Draft
@@ -43,8 +49,8 @@ drafted i D (BindLabel l skip) a = if_granted a D (with_item D (label l))
 drafted i D (PutData trap bytes) a = if_number a D (λ q. cond (length bytes == 0) D (with_item D (piece q (length bytes))))
 drafted i D (AlignTo n) a = if_granted a D (with_item D gap)
 drafted i D (UseLabelAtOffset l k bytes) a = if_number a D (λ q. with_item D (use_of q (length bytes) k l))
-drafted i D (AddUncondBranch l k bytes) a = if_number a D (λ q. with_item D (branch l (i.role k bytes)))
-drafted i D (AddCondBranch l k bytes inverted) a = if_number a D (λ q. with_item D (branch l (i.role k bytes)))
+drafted i D (AddUncondBranch l k bytes) a = if_number a D (λ q. with_branch D l (i.role k bytes))
+drafted i D (AddCondBranch l k bytes inverted) a = if_number a D (λ q. with_branch D l (i.role k bytes))
 drafted i D (DeferTrap trap) a = if_number a D (λ l. with_kept D l)
 drafted i D (RegisterConstant size align) a = D
 drafted i D (GetLabelForConstant n) a = if_number a D (λ l. with_kept D l)

@@ -1,5 +1,5 @@
 -- Turning a conditional round.
-use Rattle.std.specs.Prelude.{◌≡◌, ℕ, Bool, not, refl}
+use Rattle.std.specs.Prelude.{◌≡◌, ℕ, Bool, not, Some, refl}
 use Rattle.std.proofs.Common.{ap}
 use Rattle.bits.specs.Fields.{flip}
 use Rattle.bits.proofs.Senses.{get-flip, sense_flip}
@@ -12,15 +12,15 @@ use Rattle.riscv.specs.Roles.{branch_role}
 use Rattle.riscv.specs.KindTables.{below_2}
 use Rattle.riscv.specs.RoleLaws.{b_type}
 
-branch_turned : (w : ℕ) (c : Condition) (s : Bool) → branch_role w ≡ Conditional c s → branch_role (flip 12 w) ≡ Conditional c (not s)
+branch_turned : (w : ℕ) (c : Condition) (s : Bool) → branch_role w ≡ Some (Conditional c s) → branch_role (flip 12 w) ≡ Some (Conditional c (not s))
 branch_turned w c s e =
     let k = get-flip 12 in
     let p = passed _ _ c _ s e in
-    rw (k 0 7 w tt, k 13 2 w tt, k 15 5 w tt, k 20 5 w tt, sense_flip 12 w, p.test, p.sense) (ap (λ (x : Condition). Conditional x (not s)) p.condition)
+    rw (k 0 7 w tt, k 13 2 w tt, k 15 5 w tt, k 20 5 w tt, sense_flip 12 w, p.test, p.sense) (ap (λ (x : Condition). Some (Conditional x (not s))) p.condition)
 
 pub conditionals : Conditionals riscv_words
 conditionals = record {
-  turning = λ k w c s h. below_2 (λ k. riscv_words.role k w ≡ Conditional c s → Turning riscv_words k w c s)
+  turning = λ k w c s h. below_2 (λ k. riscv_words.role k w ≡ Some (Conditional c s) → Turning riscv_words k w c s)
       (λ e. record {
         field = b_type;
         top = 12;

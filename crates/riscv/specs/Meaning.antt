@@ -1,7 +1,6 @@
 -- What RISC-V means to a code buffer.
 use Rattle.std.specs.Prelude.{false, [], ◌∷◌, drop, ◌==◌, slice_index}
 use Rattle.bits.specs.Words.{to_bytes}
-use Rattle.isa.specs.declared.jumps.Found.TheVariants.{NoJump}
 use Rattle.isa.specs.Isa.{Isa}
 use Rattle.isa.specs.Words.{Encoding, reads, patched, outside, role, rest, inverted, branch_at_head}
 use Rattle.riscv.specs.Fields.{format}
@@ -31,5 +30,5 @@ riscv = record {
   chain = λ k. slice_index (1 ∷ []) k;
   worst = 4;
   trap = to_bytes 4 0x00100073;
-  find = λ code at. branch_at_head riscv_words (0 ∷ 1 ∷ []) (drop at code) NoJump;
+  find = λ code at. branch_at_head riscv_words (0 ∷ 1 ∷ []) (drop at code);
 }

@@ -1,13 +1,11 @@
 -- The roles: they ignore the field, and one kind at most gives one.
-use Rattle.std.specs.Prelude.{◌≡◌, ℕ, zero, suc, ◌<◌, true, cond, not, List, [], ◌∷◌, ◌==◌}
+use Rattle.std.specs.Prelude.{◌≡◌, ℕ, zero, suc, ◌<◌, true, cond, not, List, [], ◌∷◌, None, is_some, ◌==◌}
 use Rattle.std.proofs.Common.{sym, ap, ◌∙◌, arith}
 use Rattle.std.proofs.lemmas.Bool.{eqb-true, ne_eqb, and_parts, false≢true}
 use Rattle.bits.specs.declared.pieces.Piece.{Piece}
 use Rattle.bits.specs.Fields.{get, piece}
 use Rattle.bits.specs.Words.{word}
 use Rattle.bits.proofs.FormatLaws.{same_outside}
-use Rattle.isa.specs.declared.jumps.Role.TheVariants.{NoBranch}
-use Rattle.isa.specs.Roles.{is_branch}
 use Rattle.isa.proofs.Conditionals.{tested}
 use Rattle.riscv.specs.Meaning.{riscv}
 use Rattle.riscv.specs.KindTables.{below_2}
@@ -27,17 +25,17 @@ role_outside = below_2 (λ k. (b c : List ℕ) → riscv.outside k b ≡ riscv.o
 abbrev owner : ℕ → ℕ
 owner n = cond (n == 0x63) 0 1
 
-role_owner : (k : ℕ) (b : List ℕ) → is_branch (riscv.role k b) ≡ true → k ≡ owner (get 0 7 (word 4 b))
+role_owner : (k : ℕ) (b : List ℕ) → is_some (riscv.role k b) ≡ true → k ≡ owner (get 0 7 (word 4 b))
 role_owner zero b p =
     let w = word 4 b in
     rw (eqb-true (get 0 7 w) 0x63 (and_parts (get 0 7 w == 0x63) (not (get 13 2 w == 1)) (tested _ _ p)).0)
 role_owner (suc zero) b p =
     let w = word 4 b in
     rw (eqb-true (get 0 7 w) 0x6f (and_parts (get 0 7 w == 0x6f) (get 7 5 w == 0) (tested _ _ p)).0)
-role_owner (suc (suc k)) b p = absurd (false≢true (sym (ap is_branch none) ∙ p))
+role_owner (suc (suc k)) b p = absurd (false≢true (sym (ap is_some none) ∙ p))
   where
-    none : riscv.role (suc (suc k)) b ≡ NoBranch
+    none : riscv.role (suc (suc k)) b ≡ None
     none = rw (ne_eqb (suc (suc k)) 0 (λ h. omega arith), ne_eqb (suc (suc k)) 1 (λ h. omega arith))
 
-pub role_once : (k j : ℕ) (b : List ℕ) → is_branch (riscv.role k b) ≡ true → is_branch (riscv.role j b) ≡ true → k ≡ j
+pub role_once : (k j : ℕ) (b : List ℕ) → is_some (riscv.role k b) ≡ true → is_some (riscv.role j b) ≡ true → k ≡ j
 role_once k j b p q = role_owner k b p ∙ sym (role_owner j b q)

@@ -66,11 +66,11 @@ impl WordSet for RiscV {
         if kind == B12 { B_TYPE } else { J_TYPE }
     }
 
-    fn role_of_word(&self, kind: u32, code: u32) -> Role {
+    fn role_of_word(&self, kind: u32, code: u32) -> Option<Role> {
         match kind {
             B12 => branch_role_of(code),
             J20 => jump_role_of(code),
-            _ => Role::NoBranch,
+            _ => None,
         }
     }
 

@@ -17,26 +17,22 @@ fn comparison_of(code: u32) -> Condition
 }
 
 // The six branches.
-pub fn branch_role_of(code: u32) -> Role
+pub fn branch_role_of(code: u32) -> Option<Role>
     ensures { result ≡ branch_role code }
 {
     if get_field(code, 0, 7) == 0x63 && get_field(code, 13, 2) != 1 {
-        Role::Conditional {
+        Some(Role::Conditional {
             condition: comparison_of(code),
             sense: get_field(code, 12, 1) == 1,
-        }
+        })
     } else {
-        Role::NoBranch
+        None
     }
 }
 
 // JAL to register 0.
-pub fn jump_role_of(code: u32) -> Role
+pub fn jump_role_of(code: u32) -> Option<Role>
     ensures { result ≡ jump_role code }
 {
-    if get_field(code, 0, 7) == 0x6f && get_field(code, 7, 5) == 0 {
-        Role::Unconditional
-    } else {
-        Role::NoBranch
-    }
+    (get_field(code, 0, 7) == 0x6f && get_field(code, 7, 5) == 0).then_some(Role::Unconditional)
 }

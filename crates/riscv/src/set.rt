@@ -2,7 +2,7 @@
 ghost use Rattle.riscv.specs.Meaning.{riscv};
 ghost use Rattle.riscv.specs.Lawful.{riscv_lawful};
 
-use isa::{Found, InstructionSet, Role, words};
+use isa::{InstructionSet, Jump, Role, words};
 
 // Kinds are numbers: the interface takes and answers them, and an enum would only be converted to in each method.
 
@@ -60,7 +60,7 @@ impl InstructionSet for RiscV {
         words::patch(self, kind, bytes, displacement);
     }
 
-    fn role(&self, kind: u32, bytes: &[u8]) -> Role {
+    fn role(&self, kind: u32, bytes: &[u8]) -> Option<Role> {
         words::role(self, kind, bytes)
     }
 
@@ -93,7 +93,7 @@ impl InstructionSet for RiscV {
         &[0x73, 0, 0x10, 0]
     }
 
-    fn find(&self, code: &[u8], offset: usize) -> Found {
-        words::find(self, &[B12, J20], code, offset).unwrap_or(Found::NoJump)
+    fn find(&self, code: &[u8], offset: usize) -> Option<Jump> {
+        words::find(self, &[B12, J20], code, offset)
     }
 }

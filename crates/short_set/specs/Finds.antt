@@ -1,41 +1,40 @@
 -- Each patched branch and each veneer is found where it begins.
-use Rattle.std.specs.Prelude.{◌≡◌, ℕ, ◌+◌, ◌<◌, true, T, List, [], ◌∷◌, ◌++◌, length, ℤ, pos, ◌+ℤ◌, refl}
-use Rattle.std.proofs.Common.{ap}
+use Rattle.std.specs.Prelude.{◌≡◌, ℕ, ◌+◌, ◌<◌, true, T, List, [], ◌∷◌, ◌++◌, length, ℤ, pos, ◌+ℤ◌, Some, is_some, refl}
 use Rattle.std.proofs.lemmas.Bool.{false≢true}
 use Rattle.bits.specs.Fields.{get}
 use Rattle.bits.specs.Words.{word, to_bytes}
-use Rattle.isa.specs.declared.jumps.Found.TheVariants.{Branch, NoJump}
+use Rattle.isa.specs.declared.jumps.Jump.TheVariants.{Branch}
+use Rattle.isa.specs.declared.jumps.Role.{Role}
 use Rattle.isa.specs.declared.jumps.Role.TheVariants.{Unconditional}
 use Rattle.isa.specs.Isa.{Patchable, bytes_at, patched_at}
 use Rattle.isa.specs.Laws.{Leads}
-use Rattle.isa.specs.Roles.{is_branch}
 use Rattle.isa.proofs.Finding.{holds, one_size, jump_leads}
 use Rattle.isa.proofs.Formatted.{finds_branch as formatted_branch}
 use Rattle.short_set.specs.Meaning.{short}
 use Rattle.short_set.specs.KindTables.{below_4, formatted, role_outside, role_once}
 
 -- a load is no branch
-branch_kinds : (k : ℕ) → k < 4 → (b : List ℕ) → is_branch (short.role k b) ≡ true → T (holds k (0 ∷ 1 ∷ 2 ∷ []))
-branch_kinds = below_4 (λ k. (b : List ℕ) → is_branch (short.role k b) ≡ true → T (holds k (0 ∷ 1 ∷ 2 ∷ [])))
+branch_kinds : (k : ℕ) → k < 4 → (b : List ℕ) → is_some (short.role k b) ≡ true → T (holds k (0 ∷ 1 ∷ 2 ∷ []))
+branch_kinds = below_4 (λ k. (b : List ℕ) → is_some (short.role k b) ≡ true → T (holds k (0 ∷ 1 ∷ 2 ∷ [])))
     (λ b e. tt) (λ b e. tt) (λ b e. tt) (λ b e. absurd (false≢true e))
 
-pub finds_branch : (k : ℕ) (b : List ℕ) (d : ℤ) (before after : List ℕ) → Patchable short k b d → is_branch (short.role k b) ≡ true
-    → short.find (before ++ (short.patched k b d ++ after)) (length before) ≡ Branch (short.role k b) 4 d
+pub finds_branch : (k : ℕ) (b : List ℕ) (d : ℤ) (before after : List ℕ) (r : Role) → Patchable short k b d → short.role k b ≡ Some r
+    → short.find (before ++ (short.patched k b d ++ after)) (length before) ≡ Some (Branch r 4 d)
 finds_branch =
-    formatted_branch formatted (0 ∷ 1 ∷ 2 ∷ []) (λ c. NoJump) (λ code at. refl) (λ k b c p q. role_outside k p.kind b c) (λ k b p. branch_kinds k p.kind b)
+    formatted_branch formatted (0 ∷ 1 ∷ 2 ∷ []) (λ code at j e. e) (λ k b c p q. role_outside k p.kind b c) (λ k b p. branch_kinds k p.kind b)
     (λ k j b after p t h. role_once j k b (one_size short 4 j b after p.long h) t)
 
-jump_word : short.role 1 (to_bytes 4 2) ≡ Unconditional
+jump_word : short.role 1 (to_bytes 4 2) ≡ Some Unconditional
 unfolding get word
 jump_word = refl
 
-far_word : short.role 2 (to_bytes 4 3) ≡ Unconditional
+far_word : short.role 2 (to_bytes 4 3) ≡ Some Unconditional
 unfolding get word
 far_word = refl
 
-leads : (k : ℕ) (b : List ℕ) (d : ℤ) (before after : List ℕ) → Patchable short k b d → short.role k b ≡ Unconditional
+leads : (k : ℕ) (b : List ℕ) (d : ℤ) (before after : List ℕ) → Patchable short k b d → short.role k b ≡ Some Unconditional
     → Leads (short.find (before ++ ((short.patched k b d ++ []) ++ after)) (length before)) (pos 0 +ℤ d)
-leads k b d before after p j = jump_leads short k b 4 d before after (finds_branch k b d before after p (ap is_branch j)) j
+leads k b d before after p j = jump_leads short k b 4 d before after (finds_branch k b d before after Unconditional p j)
 
 -- the code of kind k's veneer, patched, leads to the target of its own use
 abbrev FoundOn : ℕ → Type 0

@@ -1,5 +1,5 @@
 -- The tables of the four kinds, kind by kind, and their roles.
-use Rattle.std.specs.Prelude.{◌≡◌, ℕ, zero, suc, ◌+◌, ◌^◌, ◌<◌, true, T, List, [], ◌∷◌, ℤ, pos, ◌==◌, nat_le, nat_lt, refl}
+use Rattle.std.specs.Prelude.{◌≡◌, ℕ, zero, suc, ◌+◌, ◌^◌, ◌<◌, true, T, List, [], ◌∷◌, ℤ, pos, is_some, ◌==◌, nat_le, nat_lt, refl}
 use Rattle.std.proofs.Common.{sym, ◌∙◌, arith, leb→le, lit≤}
 use Rattle.std.specs.Int.Signed.{mag}
 use Rattle.std.proofs.lemmas.Bool.{eqb-true, and_parts}
@@ -10,7 +10,6 @@ use Rattle.bits.specs.Words.{word}
 use Rattle.bits.proofs.FormatLaws.{top, good, Fresh, same_outside}
 use Rattle.isa.specs.Isa.{Reaches}
 use Rattle.isa.specs.Laws.{KindBounds}
-use Rattle.isa.specs.Roles.{is_branch}
 use Rattle.isa.proofs.Conditionals.{tested}
 use Rattle.isa.proofs.Formatted.{Formatted}
 use Rattle.isa.proofs.Ranges.{within}
@@ -64,10 +63,10 @@ role_outside = below_4 (λ k. (b c : List ℕ) → short.outside k b ≡ short.o
     (λ b c e. refl)
 
 -- the opcode of a branch is its kind's number and 1
-opcode : (k : ℕ) (b : List ℕ) → is_branch (short.role k b) ≡ true → get 0 8 (word 4 b) ≡ k + 1
+opcode : (k : ℕ) (b : List ℕ) → is_some (short.role k b) ≡ true → get 0 8 (word 4 b) ≡ k + 1
 opcode k b p =
     let n = get 0 8 (word 4 b) in
     eqb-true n (k + 1) (and_parts (nat_lt k 3) (n == k + 1) (tested _ _ p)).1
 
-pub role_once : (k j : ℕ) (b : List ℕ) → is_branch (short.role k b) ≡ true → is_branch (short.role j b) ≡ true → k ≡ j
+pub role_once : (k j : ℕ) (b : List ℕ) → is_some (short.role k b) ≡ true → is_some (short.role j b) ≡ true → k ≡ j
 role_once k j b p q = let e : k + 1 ≡ j + 1 = sym (opcode k b p) ∙ opcode j b q in omega arith

@@ -1,7 +1,6 @@
 -- What this made-up set means to a code buffer.
 use Rattle.std.specs.Prelude.{◌+◌, false, [], ◌∷◌, drop, nat_lt, slice_index}
 use Rattle.bits.specs.Words.{to_bytes}
-use Rattle.isa.specs.declared.jumps.Found.TheVariants.{NoJump}
 use Rattle.isa.specs.Isa.{Isa}
 use Rattle.isa.specs.Words.{Encoding, reads, patched, outside, role, rest, inverted, branch_at_head}
 use Rattle.short_set.specs.Fields.{format}
@@ -31,5 +30,5 @@ short = record {
   chain = λ k. slice_index (2 ∷ 1 ∷ []) k;
   worst = 4;
   trap = to_bytes 2 0xeeee;
-  find = λ code at. branch_at_head short_words (0 ∷ 1 ∷ 2 ∷ []) (drop at code) NoJump;
+  find = λ code at. branch_at_head short_words (0 ∷ 1 ∷ 2 ∷ []) (drop at code);
 }

@@ -60,18 +60,18 @@ impl WordSet for Short {
         }
     }
 
-    fn role_of_word(&self, kind: u32, code: u32) -> Role {
+    fn role_of_word(&self, kind: u32, code: u32) -> Option<Role> {
         if kind < LOAD && get_field(code, 0, 8) == kind + 1 {
-            if kind == BRANCH {
+            Some(if kind == BRANCH {
                 Role::Conditional {
                     condition: condition_of(code),
                     sense: get_field(code, 8, 1) == 1,
                 }
             } else {
                 Role::Unconditional
-            }
+            })
         } else {
-            Role::NoBranch
+            None
         }
     }
 

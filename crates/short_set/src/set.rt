@@ -3,7 +3,7 @@ ghost use Rattle.short_set.specs.Meaning.{short};
 ghost use Rattle.short_set.specs.Lawful.{short_lawful};
 
 use bits::write_word;
-use isa::{Found, InstructionSet, Role, words};
+use isa::{InstructionSet, Jump, Role, words};
 
 // Kinds are numbers: the interface takes and answers them, and an enum would only be converted to in each method.
 
@@ -62,7 +62,7 @@ impl InstructionSet for Short {
         words::patch(self, kind, bytes, displacement);
     }
 
-    fn role(&self, kind: u32, bytes: &[u8]) -> Role {
+    fn role(&self, kind: u32, bytes: &[u8]) -> Option<Role> {
         words::role(self, kind, bytes)
     }
 
@@ -96,7 +96,7 @@ impl InstructionSet for Short {
         &[0xee, 0xee]
     }
 
-    fn find(&self, code: &[u8], offset: usize) -> Found {
-        words::find(self, &[BRANCH, JUMP, FAR], code, offset).unwrap_or(Found::NoJump)
+    fn find(&self, code: &[u8], offset: usize) -> Option<Jump> {
+        words::find(self, &[BRANCH, JUMP, FAR], code, offset)
     }
 }

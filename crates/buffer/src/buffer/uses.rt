@@ -29,7 +29,7 @@ fn can_be_jump<S: InstructionSet>(set: &S, kind: u32, bytes: &[u8]) -> bool
     ensures { result ≡ is_jump (S.meaning set.now) kind bytes.now }
 {
     bytes.len() == set.patch_size(kind) as usize
-        && matches!(set.role(kind, bytes), Role::Unconditional)
+        && matches!(set.role(kind, bytes), Some(Role::Unconditional))
 }
 
 impl<S: InstructionSet + Drop> MachBuffer<S> {

@@ -1,5 +1,4 @@
 use Rattle.std.proofs.Common.{◌≡◌, drop}
-use Rattle.isa.specs.declared.jumps.Found.{Found}
 use Rattle.isa.specs.Words.{branch_at_head}
 use Rattle.isa.proofs.words.branch_at_head.Given as goal
 
@@ -7,4 +6,4 @@ use Rattle.isa.proofs.words.branch_at_head.Given as goal
 abbrev pub invariant-loop-kind : goal.invariant-loop-kind
 invariant-loop-kind g l =
     let e = g.S.WordSet.encoding l.set in
-    (other : Found) → branch_at_head e l.kinds l.code other ≡ branch_at_head e (drop l.kind-index l.kinds) l.code other
+    branch_at_head e l.kinds l.code ≡ branch_at_head e (drop l.kind-index l.kinds) l.code
