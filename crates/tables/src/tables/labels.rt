@@ -1,6 +1,6 @@
 // Making the tables, and the labels.
 ghost use Rattle.std.specs.Prelude.{◌≡◌, ◌<◌, map, IfOk, vec_len};
-ghost use Rattle.model.specs.Calls.{new_label, bind};
+ghost use Rattle.model.specs.Calls.{add_label, new_label, bind};
 ghost use Rattle.model.specs.Labels.{moved, aliased};
 ghost use Rattle.model.specs.State.{empty, with_labels};
 ghost use Rattle.tables.specs.View.{view};
@@ -36,6 +36,14 @@ impl Tables {
         })
     }
 
+    /// One label more, where there is room for it. A reserved one is bound by islands alone.
+    pub fn push_label(&mut self, reserved: bool)
+        requires { vec_len self.old.labels.rows < 4096 }
+        ensures { view self.new ≡ add_label (view self.old) reserved }
+    {
+        self.labels.rows.push_reserved(Label::unbound(reserved));
+    }
+
     /// A new label, if there is room for it. The answer is its number. A reserved one is bound by islands alone.
     pub fn new_label(&mut self, reserved: bool) -> Result<u32, Refusal>
         ensures { (result, view self.new) ≡ new_label (view self.old) reserved }
@@ -44,7 +52,7 @@ impl Tables {
         if number >= MAX_LABELS {
             return Err(Refusal::LabelsFull);
         }
-        self.labels.rows.push_reserved(Label::unbound(reserved));
+        self.push_label(reserved);
         Ok(number as u32)
     }
 
