@@ -4,7 +4,7 @@ use Rattle.std.specs.Option.{unwrap_or, option_map}
 use Rattle.model.specs.declared.rows.Fixup.{Fixup}
 use Rattle.model.specs.declared.rows.Branch.{Branch}
 use Rattle.model.specs.Capacities.{max_labels_at_branch}
-use Rattle.model.specs.State.{State, unknown, cur_offset, with_code, with_labels, with_fresh, with_branches}
+use Rattle.model.specs.State.{State, cur_offset, with_code, with_labels, with_fresh, with_branches}
 use Rattle.model.specs.Code.{zeros, overwritten}
 use Rattle.model.specs.Labels.{offset_of, moved, aliased, standing, bound_count}
 
@@ -14,7 +14,7 @@ no_branch = record { start = 0; end = 0; target = 0; fixup = 0; bytes = zeros 8;
 
 -- what stands for a fixup where there is none
 abbrev pub no_fixup : Fixup
-no_fixup = record { label = 0; offset = unknown; kind = 0; deadline = 0 }
+no_fixup = record { label = 0; offset = 0; kind = 0; deadline = 0 }
 
 -- a branch is conditional exactly where it has an inversion
 abbrev pub is_conditional : Branch → Bool
