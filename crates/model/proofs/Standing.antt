@@ -34,9 +34,6 @@ all_ordered c f bs j (suc k) h l all =
 pub ordered : (c f : ℕ) (bs : List Branch) (j k : ℕ) → j < k → k < length bs → AllStand c f bs → (get_or bs j no_branch).end ≤ (get_or bs k no_branch).start
 ordered c f bs j k h l all = (all_ordered c f bs j k h l all).before
 
-pub ordered_fixups : (c f : ℕ) (bs : List Branch) (j k : ℕ) → j < k → k < length bs → AllStand c f bs → (get_or bs j no_branch).fixup < (get_or bs k no_branch).fixup
-ordered_fixups c f bs j k h l all = (all_ordered c f bs j k h l all).earlier
-
 -- a branch comes at the end
 pub stand_push : (c f d g : ℕ) (bs : List Branch) (b : Branch) → AllStand c f bs → c ≤ b.start → b.start < b.end → b.end ≤ b.start + 8 → b.end ≤ d → f ≤ b.fixup → b.fixup < g → c ≤ d → f ≤ g → AllStand d g (bs ++ b ∷ [])
 stand_push c f d g bs b all p q r t u v w x k h = ⊎_elim below last (cases_lt k (length bs))

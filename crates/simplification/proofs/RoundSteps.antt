@@ -1,9 +1,9 @@
 -- One round of simplifying, and the end of the rounds.
 use Rattle.std.proofs.Common.{◌≡◌, ℕ, zero, suc, ◌+◌, ◌-◌, ◌<◌, ◌≤◌, Bool, true, false, cond, eqb, ltb, List, length, get_or, take, drop, Some, None, Option, sym, refl, ap, ◌∙◌, subst, arith}
 use Rattle.std.specs.Option.{option_eq}
-use Rattle.std.proofs.lemmas.List.{drop_more, take_all}
+use Rattle.std.proofs.lemmas.List.{drop_more}
 use Rattle.std.proofs.lemmas.List.Sums.{count_by_more_yes, sum_by-take-le}
-use Rattle.std.proofs.lemmas.Bool.{lt-ltb, eq-eqb, ne_eqb, le-leb, lt-leb, and_from, and_left, and_right, le-ltb}
+use Rattle.std.proofs.lemmas.Bool.{ne_eqb, lt-leb, and_left, and_right, le-ltb}
 use Rattle.model.specs.declared.rows.Branch.{Branch}
 use Rattle.model.specs.declared.rows.Label.{Label}
 use Rattle.model.specs.Labels.{unbound, is_at, standing}
@@ -16,9 +16,6 @@ use Rattle.simplification.specs.declared.rules.Outcome.TheVariants.{Applied, Sto
 use Rattle.simplification.specs.Rules.{fuel, apply, try_on, try_rules, all_rules}
 use Rattle.simplification.proofs.Ranks.{apply_falls, apply_passed, apply_stopped}
 use Rattle.simplification.proofs.Tries.{tried, untaken}
-
-pub takes_yes : (s : State) → 0 < length s.branches → (last_branch s).end ≡ cur_offset s → standing (last_branch s).start s.labels ≤ 100 → takes_branch s ≡ true
-takes_yes s a b c = and_from _ _ (and_from _ _ (lt-ltb 0 _ a) (eq-eqb _ _ b)) (le-leb _ 100 c)
 
 pub takes_none : (s : State) → length s.branches ≡ 0 → takes_branch s ≡ false
 takes_none s a = and_left _ _ (and_left _ _ (le-ltb 0 (length s.branches) (omega arith)))
@@ -70,10 +67,7 @@ pub place_eq : (at : ℕ) (o : Option ℕ) (b : Bool) → b ≡ option_eq eqb o 
 place_eq at None b e = sym e
 place_eq at (Some n) b e = sym e
 
--- the labels counted at a branch, which is the last
-pub stood_all : (s : State) (b : Branch) (xs : List Label) (i n : ℕ) → b ≡ last_branch s → xs ≡ s.labels → length xs ≤ i → n ≡ standing b.start (take i xs) → n ≡ standing (last_branch s).start s.labels
-stood_all s b xs i n p q h e = e ∙ (ap (standing b.start) (take_all i xs h) ∙ (ap (λ (x : Branch). standing x.start xs) p ∙ ap (standing (last_branch s).start) q))
-
+-- where one label more stands at the branch than were counted
 pub stood_some : (s : State) (b : Branch) (xs : List Label) (i n : ℕ) → b ≡ last_branch s → xs ≡ s.labels → i < length xs → n ≡ standing b.start (take i xs) → is_at b.start (get_or xs i (unbound false)).offset ≡ true → n + 1 ≤ standing (last_branch s).start s.labels
 stood_some s b xs i n p q h e t =
     let more = count_by_more_yes (λ (x : Label). is_at b.start x.offset) xs i (unbound false) h t in

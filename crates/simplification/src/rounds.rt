@@ -66,9 +66,7 @@ pub fn simplify(tables: &mut Tables, skip: bool)
 pub fn optimize_branches(tables: &mut Tables, skip: bool) -> Result<(), Refusal>
     ensures { (result, view tables.new) ≡ optimize_branches (view tables.old) skip }
 {
-    if tables.broken {
-        return Err(Refusal::BrokenOff);
-    }
+    tables.unbroken()?;
     if tables.opened.is_some() {
         return Err(Refusal::RegionOpen);
     }

@@ -66,9 +66,7 @@ impl<S: InstructionSet + Drop> MachBuffer<S> {
     fn check_target(&self, label: u32, kind: u32) -> Result<(), Refusal>
         ensures { result ≡ check_target (S.meaning self.now.set) (view self.now) label kind }
     {
-        if self.tables.broken {
-            return Err(Refusal::BrokenOff);
-        }
+        self.tables.unbroken()?;
         if self.tables.opened.is_some() {
             return Err(Refusal::RegionOpen);
         }

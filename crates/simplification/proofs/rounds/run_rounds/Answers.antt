@@ -1,35 +1,14 @@
-use Rattle.std.proofs.Common.{Bool, true, false, ◌≡◌, ◌+◌, ◌<◌, length, get_or, drop, sym, refl, ap, ◌∙◌, arith}
+use Rattle.std.proofs.Common.{true, false, ◌≡◌, ◌+◌, ◌<◌, length, get_or, drop, sym, ap, ◌∙◌, arith}
 use Rattle.std.proofs.lemmas.List.{at_drop_all}
-use Rattle.std.proofs.lemmas.List.Sums.{count_by_more_yes, count_by_more_no}
 use Rattle.std.proofs.lemmas.Bool.{eqb-true, eqb-false}
-use Rattle.model.specs.declared.rows.Label.{Label}
-use Rattle.model.specs.Labels.{unbound, is_at}
+use Rattle.model.specs.Labels.{unbound}
 use Rattle.model.specs.declared.rows.Branch.{Branch}
 use Rattle.model.specs.Simplify.{last_branch}
 use Rattle.simplification.specs.declared.rules.Rule.TheVariants.{CutToNext}
 use Rattle.simplification.specs.Rules.{fuel, try_rules, all_rules}
 use Rattle.tables.specs.View.{view}
-use Rattle.simplification.proofs.RoundSteps.{takes_yes, takes_none, takes_apart, takes_crowded, over_none, over_tried, again, step_applied, step_stopped, step_passed, place_eq, stood_all, stood_some, passed_same, stopped_same, applied_falls}
+use Rattle.simplification.proofs.RoundSteps.{takes_none, takes_apart, takes_crowded, over_none, over_tried, again, step_applied, step_stopped, step_passed, place_eq, stood_some, passed_same, stopped_same, applied_falls}
 use Rattle.simplification.proofs.rounds.run_rounds.Goals as goal
-use Rattle.simplification.proofs.rounds.run_rounds.Goals.{then-eq+else-stood-gt-MAX_LABELS_AT_BRANCH, else-eq}
-
-pub rounds-init : goal.rounds-init
-rounds-init c = (fuel (view c.args.tables.now), omega arith, refl)
-
-pub loop-label-preserved : goal.loop-label-preserved
-loop-label-preserved c =
-    let test : Label → Bool = λ (x : Label). is_at c.last_branch_of-branch.result.start x.offset in
-    let labels = c.deref-label-items.result.now in
-    let start = c.last_branch_of-branch.result.start in
-    let row = get_or labels c.loop-label.label-index (unbound false) in
-    elim c.if-eq.branch [
-      | then-eq+else-stood-gt-MAX_LABELS_AT_BRANCH w ↦
-          (let e = count_by_more_yes test labels c.loop-label.label-index (unbound false) c.loop-label-test.true (place_eq start row.offset _ w.if-eq.ensures) in
-          (omega (arith, w.stood-is, w.if-stood-gt-MAX_LABELS_AT_BRANCH.false), omega (arith, w.stood-is, e)))
-      | else-eq w ↦
-          (let e = count_by_more_no test labels c.loop-label.label-index (unbound false) c.loop-label-test.true (place_eq start row.offset _ w.if-eq.ensures) in
-          (omega (arith, w.stood-is), omega (arith, w.stood-is, e)))
-    ]
 
 pub returns-then-is_empty : goal.returns-then-is_empty
 returns-then-is_empty c =
@@ -50,16 +29,6 @@ returns-then-stood-gt-MAX_LABELS_AT_BRANCH c =
     let more = stood_some s c.last_branch_of-branch.result c.deref-label-items.result.now c.loop-label.label-index c.loop-label.stood
     c.last_branch_of-branch.ensures c.deref-label-items.ensures.value c.loop-label-test.true c.loop-label.invariant.1 (place_eq c.last_branch_of-branch.result.start (get_or c.deref-label-items.result.now c.loop-label.label-index (unbound false)).offset true c.if-eq.ensures) in
     sym (over_none s (takes_crowded s (omega arith)) c.rounds.invariant.0) ∙ c.rounds.invariant.2
-
--- a round began, and no rule was tried
-pub loop-rule-init : goal.loop-rule-init
-loop-rule-init c =
-    let s = view c.rounds.tables in
-    let some : 0 < length c.rounds.tables.branches.rows.items = omega (arith, eqb-false _ 0 (sym c.if-is_empty.ensures)) in
-    let ends : (last_branch s).end ≡ length c.rounds.tables.code.rows.items = ap (λ (b : Branch). b.end) (sym c.last_branch_of-branch.ensures) ∙ omega arith in
-    let few = stood_all s c.last_branch_of-branch.result c.deref-label-items.result.now c.loop-label.label-index c.loop-label.stood
-    c.last_branch_of-branch.ensures c.deref-label-items.ensures.value (omega arith) c.loop-label.invariant.1 in
-    (takes_yes s some ends (omega arith), refl, refl)
 
 falls : (c : goal.In-Applied) → fuel (view c.apply_rule.new.tables) < fuel (view c.rounds.tables)
 falls c =
