@@ -1,28 +1,26 @@
 -- What a report on one use says, by the meaning of the set.
 use Rattle.std.specs.Prelude.{◌≡◌, ℕ, true, false, not, List, ℤ, IfSome, Some, None, Ok, Err, vec_items, Option, Result}
 use Rattle.std.specs.Option.{option_map}
-use Rattle.isa.specs.declared.jumps.Found.TheVariants.{Branch}
+use Rattle.isa.specs.declared.jumps.Jump.TheVariants.{Branch}
 use Rattle.isa.specs.declared.jumps.Role.{Role}
-use Rattle.isa.specs.declared.jumps.Role.TheVariants.{Unconditional, Conditional, NoBranch}
+use Rattle.isa.specs.declared.jumps.Role.TheVariants.{Unconditional, Conditional}
 use Rattle.isa.specs.Isa.{Isa, Patchable, Veneer}
 use Rattle.isa.specs.Patches.{TurnedAway}
-use Rattle.isa.specs.Roles.{is_branch}
 use Rattle.jump_report.specs.declared.report.JumpReport.{JumpReport}
 use Rattle.jump_report.specs.declared.report.VeneerReport.{VeneerReport}
 use Rattle.jump_report.specs.declared.report.ReportError.{ReportError}
 use Rattle.jump_report.specs.declared.report.ReportError.TheVariants.{OutOfMemory, Refused}
 
 -- the bytes with the other sense: a conditional has them, and nothing else does
-abbrev pub other_sense : Isa → ℕ → List ℕ → Role → Option (List ℕ)
-other_sense i k b Unconditional = None
-other_sense i k b (Conditional c s) = Some (i.inverted k b)
-other_sense i k b NoBranch = None
+abbrev pub other_sense : Isa → ℕ → List ℕ → Option Role → Option (List ℕ)
+other_sense i k b None = None
+other_sense i k b (Some Unconditional) = None
+other_sense i k b (Some (Conditional c s)) = Some (i.inverted k b)
 
 -- a role with the other sense
 abbrev pub turned : Role → Role
 turned Unconditional = Unconditional
 turned (Conditional c s) = Conditional c (not s)
-turned NoBranch = NoBranch
 
 -- the parts of a veneer
 pub record Parts (v : Veneer) (code : List ℕ) (place own : ℕ) : Type 0 where
@@ -45,8 +43,8 @@ pub record Told (i : Isa) (k : ℕ) (p : List ℕ) (r : JumpReport) : Type 0 whe
   pub veneer : VeneerTold i k r.veneer
 
 -- The bytes v jump by d as bytes of role r do, but in the other sense.
-pub record Turned (i : Isa) (k : ℕ) (d : ℤ) (r : Role) (v : List ℕ) : Type 0 where
-  pub role : i.role k v ≡ turned r
+pub record Turned (i : Isa) (k : ℕ) (d : ℤ) (r : Option Role) (v : List ℕ) : Type 0 where
+  pub role : i.role k v ≡ option_map turned r
   pub reads : i.reads k v ≡ d
 
 -- The report on the bytes b of kind k that were given the displacement d.
@@ -59,7 +57,7 @@ pub record JumpSet (i : Isa) (k : ℕ) (b : List ℕ) (d : ℤ) (r : JumpReport)
   -- they do what the bytes did before
   pub role : r.role ≡ i.role k b
   -- a branch is found as what it is
-  pub finds : is_branch r.role ≡ true → r.found ≡ Branch r.role (i.size k) d
+  pub finds : IfSome r.role (λ x. r.found ≡ Some (Branch x (i.size k) d))
   -- the inverted bytes test the same, jump in the other case, and read the displacement too
   pub inverted : IfSome r.inverted (λ v. Turned i k d r.role (vec_items v))
 

@@ -42,10 +42,10 @@ impl<'a, S: InstructionSet> Use<'a, S> {
     }
 
     // The bytes with the other sense, where their role is conditional.
-    fn other_sense(&self, role: Role) -> Result<Option<Vec<u8>>, AllocError>
+    fn other_sense(&self, role: Option<Role>) -> Result<Option<Vec<u8>>, AllocError>
         ensures { IfOk result (λ o. option_map vec_items o ≡ other_sense (S.meaning self.now.set.now) self.now.kind self.now.bytes.items role) }
     {
-        let Role::Conditional { .. } = role else {
+        let Some(Role::Conditional { .. }) = role else {
             return Ok(None);
         };
         let mut inverted = Vec::from_slice(self.heap, &self.bytes)?;

@@ -2,7 +2,7 @@
 ghost use Rattle.std.specs.Prelude.{◌≡◌};
 ghost use Rattle.jump_report.specs.declared.report.ReportError.TheVariants.{OutOfMemory, Refused};
 
-use isa::{Found, PatchRefusal, Role};
+use isa::{Jump, PatchRefusal, Role};
 use std::alloc::AllocError;
 
 /// A kind's veneer: its bytes, the place of its own use in them, and that use's kind.
@@ -20,12 +20,12 @@ pub struct JumpReport {
     pub patched: Vec<u8>,
     /// the displacement that they read
     pub reads: i64,
-    /// what they do when they are run
-    pub role: Role,
+    /// their role, where they are a branch
+    pub role: Option<Role>,
     /// the bytes with the other sense, where they are a conditional branch
     pub inverted: Option<Vec<u8>>,
-    /// what the set finds in the patched bytes
-    pub found: Found,
+    /// what jumps in the patched bytes, if the set finds anything
+    pub found: Option<Jump>,
     /// the kind's veneer, where it has one
     pub veneer: Option<VeneerReport>,
 }

@@ -1,7 +1,7 @@
 // Reports as text.
 use crate::report::{JumpReport, VeneerReport};
 use crate::text::Hex;
-use isa::{Condition, Family, Found, Role};
+use isa::{Condition, Family, Jump, Role};
 use std::fmt;
 
 // Shows what is of `isa`: only a crate itself may write an impl of `Display` for its types.
@@ -35,15 +35,14 @@ impl fmt::Display for Shown<Role> {
                 "when {} is {sense}",
                 Shown(condition)
             ),
-            Role::NoBranch => f.write_str("none"),
         }
     }
 }
 
-impl fmt::Display for Shown<Found> {
+impl fmt::Display for Shown<Jump> {
     fn fmt<W: fmt::Write>(&self, f: &mut fmt::Formatter<W>) -> fmt::Result {
         match self.0 {
-            Found::Branch {
+            Jump::Branch {
                 role,
                 size,
                 displacement,
@@ -54,8 +53,7 @@ impl fmt::Display for Shown<Found> {
                     Shown(role)
                 )
             }
-            Found::Veneer { displacement } => write!(f, "a veneer by {displacement}"),
-            Found::NoJump => f.write_str("no jump"),
+            Jump::Veneer { displacement } => write!(f, "a veneer by {displacement}"),
         }
     }
 }
@@ -77,11 +75,17 @@ impl fmt::Display for JumpReport {
         let reads = self.reads;
         writeln!(f, "  patched {}", Hex(&self.patched))?;
         writeln!(f, "  reads {reads}")?;
-        writeln!(f, "  role {}", Shown(self.role))?;
+        match self.role {
+            Some(role) => writeln!(f, "  role {}", Shown(role))?,
+            None => writeln!(f, "  role none")?,
+        }
         if let Some(inverted) = &self.inverted {
             writeln!(f, "  inverted {}", Hex(inverted))?;
         }
-        writeln!(f, "  finds {}", Shown(self.found))?;
+        match self.found {
+            Some(jump) => writeln!(f, "  finds {}", Shown(jump))?,
+            None => writeln!(f, "  finds no jump")?,
+        }
         match &self.veneer {
             Some(veneer) => write!(f, "  {veneer}"),
             None => f.write_str("  no veneer"),
