@@ -24,45 +24,49 @@ pub struct Script {
     pub set: SetName,
     pub lines: Vec<ScriptLine>,
     pub fault: Option<LineFault>,
-    has_begun: bool,
+}
+
+// Takes a line among the calls. The first line that asks for anything settles the set.
+fn take_line(
+    heap: Global,
+    text: String,
+    set: &mut Option<SetName>,
+    lines: &mut Vec<ScriptLine>,
+) -> Result<(), LineError> {
+    match parse_line(heap, text.as_str())? {
+        None => {}
+        Some(Line::Set(_)) if set.is_some() => return Err(LineError::SetTooLate),
+        Some(Line::Set(chosen)) => *set = Some(chosen),
+        Some(Line::Call(call)) => {
+            set.get_or_insert(SetName::AArch64);
+            lines.push(ScriptLine { text, call })?;
+        }
+    }
+    Ok(())
 }
 
 impl Script {
-    fn new(heap: Global) -> Script {
-        Script {
-            set: SetName::AArch64,
-            lines: Vec::new(heap),
-            fault: None,
-            has_begun: false,
-        }
-    }
-
-    fn take_line(&mut self, heap: Global, text: String) -> Result<(), LineError> {
-        match parse_line(heap, text.as_str())? {
-            None => return Ok(()),
-            Some(Line::Set(_)) if self.has_begun => return Err(LineError::SetTooLate),
-            Some(Line::Set(set)) => self.set = set,
-            Some(Line::Call(call)) => self.lines.push(ScriptLine { text, call })?,
-        }
-        self.has_begun = true;
-        Ok(())
-    }
-
     /// Reads a script. Only a failing input is an error; a line that can't be read ends the script.
     pub fn read<R: BufRead + Drop>(heap: Global, input: R) -> io::Result<Script> {
-        let mut script = Script::new(heap);
+        let mut set = None;
+        let mut lines = Vec::new(heap);
+        let mut fault = None;
         for (number, line) in (1..).zip(input.lines(heap)) {
             let taken = match line {
-                Ok(text) => script.take_line(heap, text),
+                Ok(text) => take_line(heap, text, &mut set, &mut lines),
                 Err(e) if e.kind() == ErrorKind::InvalidData => Err(LineError::NotText),
                 Err(e) => return Err(e),
             };
             if let Err(error) = taken {
-                script.fault = Some(LineFault { number, error });
+                fault = Some(LineFault { number, error });
                 break;
             }
         }
-        Ok(script)
+        Ok(Script {
+            set: set.unwrap_or(SetName::AArch64),
+            lines,
+            fault,
+        })
     }
 
     /// The calls, with their bytes lent.

@@ -35,6 +35,7 @@ pub enum LineError {
     OutOfReach { back: u32, ahead: u32 },
 }
 
+// By hand, since clauses name the error that `?` gives, and a derived `From` states none.
 impl From<AllocError> for LineError {
     ghost from_gives = { λ _ r. r ≡ OutOfMemory };
 
@@ -106,6 +107,7 @@ fn report_by<S: InstructionSet>(
 pub fn report_on(heap: Global, request: &Request) -> Result<JumpReport, LineError>
     ensures { Done (meaning_of request.now.set) request.now result }
 {
+    // Each arm calls at a type of its own, so no plainer choice of one is to be had.
     match request.set {
         SetName::AArch64 => report_by(heap, &AArch64, request),
         SetName::RiscV => report_by(heap, &RiscV, request),

@@ -61,7 +61,7 @@ pair_back b h =
     ∙ ap (λ (n : ℕ). Some n) (omega arith)
 
 -- the text of some bytes writes them
-pub text_back : (bs : List ℕ) → Small bs → hex_bytes (hex_text bs) ≡ Some bs
+text_back : (bs : List ℕ) → Small bs → hex_bytes (hex_text bs) ≡ Some bs
 text_back [] h = refl
 text_back (b ∷ bs) h =
     ap (λ (o : Option ℕ). followed o (hex_bytes (hex_text bs))) (pair_back b (h 0)) ∙ ap (followed (Some b)) (text_back bs (λ k. h (suc k)))

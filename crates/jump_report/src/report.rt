@@ -37,6 +37,7 @@ pub enum ReportError {
     Refused(PatchRefusal),
 }
 
+// By hand, since clauses name the error that `?` gives, and a derived `From` states none.
 impl From<AllocError> for ReportError {
     ghost from_gives = { λ _ r. r ≡ OutOfMemory };
 

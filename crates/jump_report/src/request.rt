@@ -52,6 +52,7 @@ impl Request {
     }
 }
 
+// By hand, since clauses name the error that `?` gives, and a derived `From` states none.
 impl From<HexError> for RequestError {
     ghost from_gives = { λ e r. r ≡ from_hex e };
 

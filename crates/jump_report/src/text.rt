@@ -56,6 +56,7 @@ pub enum HexError {
     NotHex,
 }
 
+// By hand, since clauses name the error that `?` gives, and a derived `From` states none.
 impl From<FromHexError> for HexError {
     ghost from_gives = { λ e r. r ≡ from_library e };
 

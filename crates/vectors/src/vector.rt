@@ -58,6 +58,7 @@ impl fmt::Display for Reason {
     }
 }
 
+// By hand, since clauses name the error that `?` gives, and a derived `From` states none.
 impl From<AllocError> for Fault {
     ghost from_gives = { λ _ r. r ≡ OutOfMemory };
 
@@ -138,6 +139,7 @@ fn judge_by<S: InstructionSet>(heap: Global, set: &S, vector: &Vector) -> Result
 pub fn judge(heap: Global, vector: &Vector) -> Result<(), Fault>
     ensures { Judged (meaning_of vector.now.request.set) vector.now result }
 {
+    // Each arm calls at a type of its own, so no plainer choice of one is to be had.
     match vector.request.set {
         SetName::AArch64 => judge_by(heap, &AArch64, vector),
         SetName::RiscV => judge_by(heap, &RiscV, vector),
