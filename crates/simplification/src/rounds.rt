@@ -67,9 +67,7 @@ pub fn optimize_branches(tables: &mut Tables, skip: bool) -> Result<(), Refusal>
     ensures { (result, view tables.new) ≡ optimize_branches (view tables.old) skip }
 {
     tables.unbroken()?;
-    if tables.opened.is_some() {
-        return Err(Refusal::RegionOpen);
-    }
+    tables.no_region_open()?;
     simplify(tables, skip);
     Ok(())
 }

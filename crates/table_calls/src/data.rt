@@ -6,7 +6,6 @@ ghost use Rattle.tables.specs.View.{view};
 use model::Refusal;
 use model::rows::Trap;
 use slices::bytes::{is_alignment_number, padding_of};
-use tables::capacities::MAX_CODE;
 use tables::tables::Tables;
 
 /// Appends bytes, which may trap if the trap code is not 0.
@@ -21,9 +20,7 @@ pub fn put_data(tables: &mut Tables, trap: u32, bytes: &[u8]) -> Result<u32, Ref
         tables.trap_room()?;
     }
     let offset = tables.code.rows.len();
-    if bytes.len() > MAX_CODE - offset {
-        return Err(Refusal::CodeFull);
-    }
+    tables.code_room(bytes.len())?;
     if trap > 0 {
         tables.traps.rows.push_reserved(Trap {
             offset: offset as u32,
@@ -44,9 +41,7 @@ pub fn align_to(tables: &mut Tables, n: u32) -> Result<(), Refusal>
     }
     let offset = tables.code.rows.len();
     let missing = padding_of(n, offset as u32) as usize;
-    if missing > MAX_CODE - offset {
-        return Err(Refusal::CodeFull);
-    }
+    tables.code_room(missing)?;
     tables.append_zeros(missing);
     Ok(())
 }

@@ -15,9 +15,7 @@ pub fn start_patchable(tables: &mut Tables) -> Result<OpenPatchRegion, Refusal>
     ensures { (opened_number result, view tables.new) ≡ start_patchable (view tables.old) }
 {
     tables.unbroken()?;
-    if tables.opened.is_some() {
-        return Err(Refusal::RegionOpen);
-    }
+    tables.no_region_open()?;
     let number = tables.regions.rows.len();
     if number >= MAX_REGIONS {
         return Err(Refusal::RegionsFull);

@@ -10,7 +10,6 @@ use model::Refusal;
 use simplification::rounds::{optimize_branches, simplify};
 use std::alloc::{AllocError, Global};
 use table_calls::labels::get_label;
-use table_questions::cur_offset;
 use tables::tables::Tables;
 
 impl<S: InstructionSet + Drop> MachBuffer<S> {
@@ -38,9 +37,7 @@ impl<S: InstructionSet + Drop> MachBuffer<S> {
         ensures set { self.new.set ≡ self.old.set }
     {
         self.tables.unbroken()?;
-        if self.tables.opened.is_some() {
-            return Err(Refusal::RegionOpen);
-        }
+        self.tables.no_region_open()?;
         if label as usize >= self.tables.labels.rows.len() {
             return Err(Refusal::NoSuchLabel);
         }
@@ -48,9 +45,7 @@ impl<S: InstructionSet + Drop> MachBuffer<S> {
         if row.offset.is_some() || row.alias.is_some() || row.reserved {
             return Err(Refusal::AlreadyBound);
         }
-        if cur_offset(&self.tables) % self.set.align() != 0 {
-            return Err(Refusal::NotAligned);
-        }
+        self.aligned()?;
         self.tables.bind_here(label);
         simplify(&mut self.tables, skip);
         Ok(())

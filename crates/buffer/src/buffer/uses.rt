@@ -12,7 +12,7 @@ use isa::{InstructionSet, Role, is_inversion};
 use model::Refusal;
 use model::rows::Fixup;
 use table_questions::cur_offset;
-use tables::capacities::{MAX_BRANCHES, MAX_CODE, MAX_FIXUPS};
+use tables::capacities::MAX_BRANCHES;
 
 // Whether bytes can be a use of a kind: as many as it patches, and reading 0 where it adds.
 fn can_be_use<S: InstructionSet>(set: &S, kind: u32, bytes: &[u8]) -> bool
@@ -67,9 +67,7 @@ impl<S: InstructionSet + Drop> MachBuffer<S> {
         ensures { result ≡ check_target (S.meaning self.now.set) (view self.now) label kind }
     {
         self.tables.unbroken()?;
-        if self.tables.opened.is_some() {
-            return Err(Refusal::RegionOpen);
-        }
+        self.tables.no_region_open()?;
         if label as usize >= self.tables.labels.rows.len() {
             return Err(Refusal::NoSuchLabel);
         }
@@ -93,18 +91,12 @@ impl<S: InstructionSet + Drop> MachBuffer<S> {
         if !can_be_use(&self.set, kind, bytes) {
             return Err(Refusal::BadBytes);
         }
-        let offset = self.tables.code.rows.len();
-        if offset as u32 % self.set.align() != 0 {
-            return Err(Refusal::NotAligned);
-        }
-        if self.tables.fresh.rows.len() + self.tables.held.rows.len() >= MAX_FIXUPS {
-            return Err(Refusal::FixupsFull);
-        }
-        if bytes.len() > MAX_CODE - offset {
-            return Err(Refusal::CodeFull);
-        }
+        self.aligned()?;
+        self.tables.fixup_room()?;
+        self.tables.code_room(bytes.len())?;
+        let offset = cur_offset(&self.tables);
         self.append(label, kind, bytes);
-        Ok(offset as u32)
+        Ok(offset)
     }
 
     // Appends a branch whose bytes have the kind's length.
@@ -136,21 +128,15 @@ impl<S: InstructionSet + Drop> MachBuffer<S> {
         ensures tables { (result, view self.new) ≡ place_branch (S.meaning self.old.set) (view self.old) label kind bytes.now (option_copied inverted.entry) }
         ensures set { self.new.set ≡ self.old.set }
     {
-        let offset = self.tables.code.rows.len();
-        if offset as u32 % self.set.align() != 0 {
-            return Err(Refusal::NotAligned);
-        }
-        if self.tables.fresh.rows.len() + self.tables.held.rows.len() >= MAX_FIXUPS {
-            return Err(Refusal::FixupsFull);
-        }
+        self.aligned()?;
+        self.tables.fixup_room()?;
         if self.tables.branches.rows.len() >= MAX_BRANCHES {
             return Err(Refusal::BranchesFull);
         }
-        if bytes.len() > MAX_CODE - offset {
-            return Err(Refusal::CodeFull);
-        }
+        self.tables.code_room(bytes.len())?;
+        let offset = cur_offset(&self.tables);
         self.append_branch(label, kind, bytes, inverted);
-        Ok(offset as u32)
+        Ok(offset)
     }
 
     /// Appends an unconditional branch to a label. The answer is its offset.

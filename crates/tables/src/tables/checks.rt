@@ -1,10 +1,11 @@
 // What refuses a call before anything is done.
 ghost use Rattle.std.specs.Prelude.{◌≡◌, cond};
-ghost use Rattle.model.specs.Full.{traps_full};
+ghost use Rattle.model.specs.Full.{no_room, fixups_full, traps_full};
+ghost use Rattle.model.specs.State.{is_open};
 ghost use Rattle.tables.specs.View.{view};
 
 use super::Tables;
-use crate::capacities::MAX_TRAPS;
+use crate::capacities::{MAX_CODE, MAX_FIXUPS, MAX_TRAPS};
 use model::Refusal;
 
 impl Tables {
@@ -14,6 +15,36 @@ impl Tables {
     {
         if self.broken {
             return Err(Refusal::BrokenOff);
+        }
+        Ok(())
+    }
+
+    /// No region is open.
+    pub fn no_region_open(&self) -> Result<(), Refusal>
+        ensures { result ≡ cond (is_open (view self.now)) (Err Refusal.RegionOpen) (Ok tt) }
+    {
+        if self.opened.is_some() {
+            return Err(Refusal::RegionOpen);
+        }
+        Ok(())
+    }
+
+    /// There is room for so many bytes of code more.
+    pub fn code_room(&self, n: usize) -> Result<(), Refusal>
+        ensures { result ≡ cond (no_room (view self.now) n) (Err Refusal.CodeFull) (Ok tt) }
+    {
+        if n > MAX_CODE - self.code.rows.len() {
+            return Err(Refusal::CodeFull);
+        }
+        Ok(())
+    }
+
+    /// There is room for one fixup more.
+    pub fn fixup_room(&self) -> Result<(), Refusal>
+        ensures { result ≡ cond (fixups_full (view self.now)) (Err Refusal.FixupsFull) (Ok tt) }
+    {
+        if self.fresh.rows.len() + self.held.rows.len() >= MAX_FIXUPS {
+            return Err(Refusal::FixupsFull);
         }
         Ok(())
     }
