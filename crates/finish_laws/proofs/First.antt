@@ -20,7 +20,7 @@ use Rattle.model.specs.Islands.{threshold, handled, is_ripe, less_fresh, less_he
 use Rattle.model.proofs.Cases.{either}
 use Rattle.finish_laws.proofs.Brings.{Brings, then_brings}
 use Rattle.finish_laws.proofs.Fates.{Supported, fate_supported}
-use Rattle.finish_laws.proofs.Unplaced.{set_field}
+use Rattle.label_laws.proofs.Edits.{set_field}
 
 -- the same labels, of which some may now stand somewhere
 pub record Alike (ls us : List Label) : Type 0 where

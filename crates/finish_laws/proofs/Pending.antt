@@ -1,5 +1,5 @@
 -- Which labels are pending: those of the deferred traps and of the requested constants.
-use Rattle.std.proofs.Common.{◌≡◌, ℕ, zero, suc, ◌<◌, true, ◌≢◌, ◌⊎◌, List, [], ◌∷◌, ◌++◌, map, length, set, Some, None, Option, sym, refl, ap, ◌∙◌, subst, inl, inr, append_assoc, append-nil}
+use Rattle.std.proofs.Common.{◌≡◌, ℕ, ◌<◌, true, ◌≢◌, ◌⊎◌, List, [], ◌∷◌, ◌++◌, map, length, set, Some, None, Option, sym, ap, ◌∙◌, subst, inl, inr, append_assoc, append-nil}
 use Rattle.std.specs.List.{AllByRecursion}
 use Rattle.std.proofs.lemmas.Bool.{cases_eq}
 use Rattle.std.proofs.lemmas.Option.{none-some}
@@ -10,6 +10,7 @@ use Rattle.model.specs.declared.rows.Constant.{Constant}
 use Rattle.model.specs.Labels.{unbound, label_row, bound_at, bound_if}
 use Rattle.label_laws.specs.Sound.{label_of, pending}
 use Rattle.label_laws.proofs.Distinct.{all_out, all_in}
+use Rattle.label_laws.proofs.Tables.{registered_label}
 use Rattle.finish_laws.proofs.Unplaced.{Unplaced, pushed_unplaced, bound_if_unplaced}
 
 -- what is not pending is placed, was never reserved, or has become an alias
@@ -27,13 +28,7 @@ others_before cs n l x h (m ∷ ns) a = (by (cases_eq m n), others_before cs n l
 
 registered_before : (cs : List Constant) (size align : ℕ) (l : Option ℕ) (ns : List ℕ) → AllByRecursion (λ z. z ≢ l) (map (label_of (cs ++ record { size = size; align = align; label = None } ∷ [])) ns) → AllByRecursion (λ z. z ≢ l) (map (label_of cs) ns)
 registered_before cs size align l [] a = tt
-registered_before cs size align l (n ∷ ns) a = (λ z. a.0 (same cs n ∙ z), registered_before cs size align l ns a.1)
-  where
-    same : (ks : List Constant) (m : ℕ) → label_of (ks ++ record { size = size; align = align; label = None } ∷ []) m ≡ label_of ks m
-    same [] zero = refl
-    same [] (suc m) = refl
-    same (k ∷ ks) zero = refl
-    same (k ∷ ks) (suc m) = same ks m
+registered_before cs size align l (n ∷ ns) a = (λ z. a.0 (registered_label cs size align n ∙ z), registered_before cs size align l ns a.1)
 
 -- the labels pending after another table of constants
 all_first : (P : Option ℕ → Type 0) (xs ys zs : List (Option ℕ)) → (AllByRecursion P ys → AllByRecursion P zs) → AllByRecursion P (xs ++ ys) → AllByRecursion P (xs ++ zs)

@@ -1,12 +1,12 @@
 -- Labels that an island has yet to bind, by edits of their table.
-use Rattle.std.proofs.Common.{◌≡◌, ℕ, zero, suc, ◌<◌, ◌≤◌, Bool, true, false, ◌≢◌, ◌⊎◌, List, [], ◌∷◌, ◌++◌, map, length, set, Some, None, Option, sym, refl, ap, ◌∙◌, subst, inl, inr, arith, length-set}
+use Rattle.std.proofs.Common.{◌≡◌, ℕ, ◌<◌, ◌≤◌, Bool, true, false, ◌≢◌, ◌⊎◌, List, [], ◌∷◌, ◌++◌, map, length, Some, None, Option, sym, refl, ap, ◌∙◌, subst, inl, inr, arith, length-set}
 use Rattle.std.proofs.lemmas.Bool.{cases_eq, cases_lt, false≢true}
 use Rattle.std.proofs.lemmas.Option.{none-some, same_Some}
 use Rattle.std.proofs.lemmas.List.{length_push, get_or_past, get_or_push, get_or_append_left, get_or-set_same}
 use Rattle.model.specs.declared.rows.Label.{Label}
 use Rattle.model.specs.Labels.{unbound, label_row, bound_at, bound_if, moved, aliased}
 use Rattle.model.proofs.Labels.{eq-is_at, cases_at}
-use Rattle.label_laws.proofs.Edits.{bound_row}
+use Rattle.label_laws.proofs.Edits.{set_field, bound_row}
 use Rattle.label_laws.proofs.Moved.{moved_other, moved_row}
 use Rattle.label_laws.proofs.Redirected.{aliased_other, aliased_row}
 
@@ -50,13 +50,6 @@ user_unplaced ls l u = by (cases_eq l (length ls))
     by (inr n) = pushed_unplaced ls false l n u
 
 -- one label bound
-pub set_field : {A : Type 0} (g : Label → A) (ls : List Label) (l k : ℕ) (x : Label) → g x ≡ g (label_row ls l) → g (label_row (set ls l x) k) ≡ g (label_row ls k)
-set_field g [] l k x e = refl
-set_field g (y ∷ ls) zero zero x e = e
-set_field g (y ∷ ls) zero (suc k) x e = refl
-set_field g (y ∷ ls) (suc l) zero x e = refl
-set_field g (y ∷ ls) (suc l) (suc k) x e = set_field g ls l k x e
-
 bound_unplaced : (ls : List Label) (l at k : ℕ) → Unplaced (label_row (bound_at ls l at) k) → (k ≢ l) × Unplaced (label_row ls k)
 bound_unplaced ls l at k u = by (cases_eq k l)
   where

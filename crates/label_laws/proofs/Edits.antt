@@ -43,12 +43,12 @@ pushed_keeps ls r h o = record {
 }
 
 -- one label bound
-set_alias : (ls : List Label) (l k : ℕ) (x : Label) → x.alias ≡ (label_row ls l).alias → (label_row (set ls l x) k).alias ≡ (label_row ls k).alias
-set_alias [] l k x e = refl
-set_alias (y ∷ ls) zero zero x e = e
-set_alias (y ∷ ls) zero (suc k) x e = refl
-set_alias (y ∷ ls) (suc l) zero x e = refl
-set_alias (y ∷ ls) (suc l) (suc k) x e = set_alias ls l k x e
+pub set_field : {A : Type 0} (g : Label → A) (ls : List Label) (l k : ℕ) (x : Label) → g x ≡ g (label_row ls l) → g (label_row (set ls l x) k) ≡ g (label_row ls k)
+set_field g [] l k x e = refl
+set_field g (y ∷ ls) zero zero x e = e
+set_field g (y ∷ ls) zero (suc k) x e = refl
+set_field g (y ∷ ls) (suc l) zero x e = refl
+set_field g (y ∷ ls) (suc l) (suc k) x e = set_field g ls l k x e
 
 pub bound_row : (ls : List Label) (l at k : ℕ) → k ≢ l → label_row (bound_at ls l at) k ≡ label_row ls k
 bound_row ls l at k h = get_or-set_other ls l k _ (unbound false) h
@@ -58,7 +58,7 @@ bound_keeps ls l at nowhere plain o = record {
   orderly = record {
     few = rw length-set o.few;
     rows = rw length-set (All-set (Row (length ls)) ls l _ (inl plain) o.rows);
-    ends = λ k. ((o.ends k).0, same_aliases ls (bound_at ls l at) (λ j. set_alias ls l j _ refl) (o.ends k).1);
+    ends = λ k. ((o.ends k).0, same_aliases ls (bound_at ls l at) (λ j. set_field (λ (x : Label). x.alias) ls l j _ refl) (o.ends k).1);
   };
   later = record { more = rw length-set (omega arith); moves = λ k h. by k h (cases_eq k l) };
 }

@@ -85,7 +85,7 @@ other_labels cs n x (m ∷ ns) a =
     cc
 
 -- a constant is registered
-registered_label : (cs : List Constant) (size align n : ℕ) → label_of (cs ++ record { size = size; align = align; label = None } ∷ []) n ≡ label_of cs n
+pub registered_label : (cs : List Constant) (size align n : ℕ) → label_of (cs ++ record { size = size; align = align; label = None } ∷ []) n ≡ label_of cs n
 registered_label [] size align zero = refl
 registered_label [] size align (suc n) = refl
 registered_label (c ∷ cs) size align zero = refl
