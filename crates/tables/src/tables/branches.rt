@@ -14,7 +14,7 @@ use slices::bytes::widen;
 impl Tables {
     /// The last standing branch.
     pub fn last_branch_of(&self) -> Branch
-        // That a branch stands is true of a moment, not of every value of the tables, so that no type can hold it.
+        // That a branch stands, or one of a number, is true of a moment, so that no type can hold it.
         requires { 0 < vec_len self.now.branches.rows }
         ensures { result ≡ last_branch (view self.now) }
     {
