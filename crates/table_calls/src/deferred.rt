@@ -31,10 +31,8 @@ pub fn get_label_for_constant(tables: &mut Tables, number: u32) -> Result<u32, R
 {
     tables.unbroken()?;
     let n = number as usize;
-    if n >= tables.constants.rows.len() {
-        return Err(Refusal::NoSuchConstant);
-    }
-    if let Some(label) = tables.constants.rows[n].label {
+    let constant = tables.constants.rows.get(n).copied();
+    if let Some(label) = constant.ok_or(Refusal::NoSuchConstant)?.label {
         return Ok(label);
     }
     if tables.requested.rows.len() + tables.placed.rows.len() >= MAX_REQUESTS {

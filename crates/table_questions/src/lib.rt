@@ -26,9 +26,7 @@ pub fn cur_offset(tables: &Tables) -> u32
 pub fn resolve_label_offset(tables: &Tables, label: u32) -> Result<u32, Refusal>
     ensures { result ≡ resolve_label_offset (view tables.now) label }
 {
-    if label as usize >= tables.labels.rows.len() {
-        return Err(Refusal::NoSuchLabel);
-    }
+    tables.label(label)?;
     Ok(resolve(tables.labels.rows.as_slice(), label))
 }
 

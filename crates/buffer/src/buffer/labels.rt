@@ -38,10 +38,7 @@ impl<S: InstructionSet + Drop> MachBuffer<S> {
     {
         self.tables.unbroken()?;
         self.tables.no_region_open()?;
-        if label as usize >= self.tables.labels.rows.len() {
-            return Err(Refusal::NoSuchLabel);
-        }
-        let row = self.tables.labels.rows[label as usize];
+        let row = self.tables.label(label)?;
         if row.offset.is_some() || row.alias.is_some() || row.reserved {
             return Err(Refusal::AlreadyBound);
         }

@@ -68,9 +68,7 @@ impl<S: InstructionSet + Drop> MachBuffer<S> {
     {
         self.tables.unbroken()?;
         self.tables.no_region_open()?;
-        if label as usize >= self.tables.labels.rows.len() {
-            return Err(Refusal::NoSuchLabel);
-        }
+        self.tables.label(label)?;
         if kind >= self.set.kinds() {
             return Err(Refusal::NoSuchKind);
         }

@@ -18,7 +18,7 @@ impl Tables {
         requires { 0 < vec_len self.now.branches.rows }
         ensures { result ≡ last_branch (view self.now) }
     {
-        self.branches.rows[self.branches.rows.len() - 1]
+        *self.branches.rows.last().unwrap()
     }
 
     /// The branch before the last, where one ends where the last begins.

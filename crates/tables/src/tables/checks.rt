@@ -1,12 +1,15 @@
 // What refuses a call before anything is done.
 ghost use Rattle.std.specs.Prelude.{◌≡◌, cond};
+ghost use Rattle.model.specs.Calls.{no_label};
 ghost use Rattle.model.specs.Full.{no_room, fixups_full, traps_full};
+ghost use Rattle.model.specs.Labels.{label_row};
 ghost use Rattle.model.specs.State.{is_open};
 ghost use Rattle.tables.specs.View.{view};
 
 use super::Tables;
 use crate::capacities::{MAX_CODE, MAX_FIXUPS, MAX_TRAPS};
 use model::Refusal;
+use model::rows::Label;
 
 impl Tables {
     /// Nothing more is built once an island has failed.
@@ -27,6 +30,17 @@ impl Tables {
             return Err(Refusal::RegionOpen);
         }
         Ok(())
+    }
+
+    /// The row of a label, if there is one of that number.
+    pub fn label(&self, label: u32) -> Result<Label, Refusal>
+        ensures { result ≡ cond (no_label (view self.now) label) (Err Refusal.NoSuchLabel) (Ok (label_row (view self.now).labels label)) }
+    {
+        self.labels
+            .rows
+            .get(label as usize)
+            .copied()
+            .ok_or(Refusal::NoSuchLabel)
     }
 
     /// There is room for so many bytes of code more.

@@ -7,16 +7,13 @@ ghost use Rattle.tables.specs.View.{view};
 use super::Tables;
 use slices::bytes::overwrite;
 
-const ZEROS: [u8; 64] = [0; 64];
-
 impl Tables {
     /// Appends zeros, where there is room for them.
     pub fn append_zeros(&mut self, n: usize)
-        requires few { n ≤ 64 }
-        requires room { vec_len self.old.code.rows + n ≤ 65536 }
+        requires { vec_len self.old.code.rows + n ≤ 65536 }
         ensures { view self.new ≡ with_code (view self.old) ((view self.old).code ++ zeros n) }
     {
-        self.append_bytes(&ZEROS[0..n]);
+        let _ = self.code.rows.resize(self.code.rows.len() + n, 0);
     }
 
     /// Appends bytes, where there is room for them.
