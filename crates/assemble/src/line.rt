@@ -10,6 +10,7 @@ use replay::Call;
 use std::alloc::Global;
 
 /// A call as a script has it, with bytes of its own.
+// The calls with bytes once more, owned: a call generic in its bytes would be matched over all its cases to lend them.
 #[derive(Drop)]
 pub enum ScriptCall {
     /// a call that takes no bytes
@@ -136,35 +137,40 @@ fn parse_plain(name: &str, words: &mut Words) -> Result<Call<'static>, LineError
     })
 }
 
-fn parse_put(words: &mut Words) -> Result<ScriptCall, LineError> {
-    let trap = words.number("CODE")?;
-    let bytes = words.bytes("BYTES")?;
-    Ok(ScriptCall::PutData { trap, bytes })
-}
-
-// A use of a label, which a branch is too.
-fn parse_use(name: &str, words: &mut Words) -> Result<ScriptCall, LineError> {
-    let label = words.number("L")?;
-    let kind = words.number("KIND")?;
-    let bytes = words.bytes("BYTES")?;
-    Ok(match name {
-        "use_label_at_offset" => ScriptCall::UseLabelAtOffset { label, kind, bytes },
-        "add_uncond_branch" => ScriptCall::AddUncondBranch { label, kind, bytes },
-        _ => ScriptCall::AddCondBranch {
-            label,
-            kind,
-            bytes,
-            inverted: words.bytes("INVERTED")?,
-        },
-    })
+// A label, a kind and bytes: what each use of a label has, which a branch is too.
+fn parse_use(words: &mut Words) -> Result<(u32, u32, Vec<u8>), LineError> {
+    Ok((
+        words.number("L")?,
+        words.number("KIND")?,
+        words.bytes("BYTES")?,
+    ))
 }
 
 fn parse_call(name: &str, words: &mut Words) -> Result<ScriptCall, LineError> {
-    match name {
-        "put_data" => parse_put(words),
-        "use_label_at_offset" | "add_uncond_branch" | "add_cond_branch" => parse_use(name, words),
-        _ => Ok(ScriptCall::Plain(parse_plain(name, words)?)),
-    }
+    Ok(match name {
+        "put_data" => ScriptCall::PutData {
+            trap: words.number("CODE")?,
+            bytes: words.bytes("BYTES")?,
+        },
+        "use_label_at_offset" => {
+            let (label, kind, bytes) = parse_use(words)?;
+            ScriptCall::UseLabelAtOffset { label, kind, bytes }
+        }
+        "add_uncond_branch" => {
+            let (label, kind, bytes) = parse_use(words)?;
+            ScriptCall::AddUncondBranch { label, kind, bytes }
+        }
+        "add_cond_branch" => {
+            let (label, kind, bytes) = parse_use(words)?;
+            ScriptCall::AddCondBranch {
+                label,
+                kind,
+                bytes,
+                inverted: words.bytes("INVERTED")?,
+            }
+        }
+        _ => ScriptCall::Plain(parse_plain(name, words)?),
+    })
 }
 
 /// Reads a line. One that is empty or begins with `#`, of code 35, asks nothing.

@@ -28,6 +28,7 @@ use std::io;
 use std::io::BufReader;
 
 fn print_answers(rt: &impl Print, script: &Script, answers: &[Answer]) -> io::Result<()> {
+    // Answers stand beside the lines, not in them: who makes calls knows no lines.
     for (line, answer) in script.lines.iter().zip(answers.iter()) {
         let text = line.text.as_str();
         let answered = Answered {
@@ -86,6 +87,7 @@ fn run<S: InstructionSet + Drop>(rt: &HostRuntime, set: S, script: &Script) -> i
 
 fn assemble(rt: &HostRuntime) -> anyhow::Result<()> {
     let script = Script::read(rt.alloc(), BufReader::new(rt.alloc(), rt.stdin())?)?;
+    // Each arm calls at a type of its own, so no plainer choice of one is to be had.
     match script.set {
         SetName::AArch64 => run(rt, AArch64, &script)?,
         SetName::RiscV => run(rt, RiscV, &script)?,

@@ -34,7 +34,7 @@ impl fmt::Display for Answered<'_> {
     }
 }
 
-// A refusal by its number, with the label where it has one.
+// A refusal by its number, with the label where it has one: as scripts print it, which `model` doesn't know.
 #[derive(Clone, Copy)]
 struct Numbered(Refusal);
 

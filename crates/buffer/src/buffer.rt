@@ -22,6 +22,7 @@ pub struct MachBuffer<S> {
     tables: Tables,
 }
 
+// Each call says that the set stays: no type can say of a call what it leaves as it was.
 impl<S: InstructionSet + Drop> MachBuffer<S> {
     // The current offset is a multiple of the alignment.
     fn aligned(&self) -> Result<(), Refusal>

@@ -11,7 +11,8 @@ use std::num::TryFromIntError;
 use std::process::Abort;
 use std::test::Fail;
 
-/// A call of the buffer or a question to it. Bytes are given as words, lowest byte first.
+/// A call of the buffer or a question to it. Bytes are given as words, lowest byte first, some of them by their number.
+// Calls of its own: the buffer is tested without what stands above it.
 #[derive(Clone, Copy)]
 pub enum Call {
     Label,
@@ -70,6 +71,7 @@ pub enum Call {
     Word(u32),
 }
 
+// Refusals by number, as the tests expect them; no refusal has the number 0.
 /// What is answered: a number, 0 where nothing more is said, or the number of a refusal, 0 for what no buffer answers.
 pub type Answer = Result<u32, u32>;
 
@@ -96,15 +98,10 @@ impl From<TryFromIntError> for Failure {
     }
 }
 
-/// The number of a refusal.
-pub fn number(refusal: Refusal) -> u32 {
-    refusal.into()
-}
-
 impl From<Failure> for u32 {
     fn from(failure: Failure) -> u32 {
         match failure {
-            Failure::Refused(refusal) => number(refusal),
+            Failure::Refused(refusal) => refusal.into(),
             Failure::NoAnswer => 0,
         }
     }

@@ -3,8 +3,11 @@ ghost use Rattle.std.specs.Prelude.{◌≡◌};
 ghost use Rattle.model.specs.Labels.{unbound};
 ghost use Rattle.model.specs.Simplify.{is_conditional, turned};
 
-/// Where a label is that stands nowhere, and the cap of deadlines.
+/// Where a label is that stands nowhere: the number is the source's.
 pub const UNKNOWN: u32 = 4294967295;
+
+/// No deadline counts as later, and no threshold is higher.
+pub const LATEST: u64 = 4294967295;
 
 /// A label: it stands at an offset, or is an alias of another label and stands nowhere itself, or is unbound.
 #[derive(Clone, Copy)]

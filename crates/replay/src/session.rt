@@ -60,6 +60,7 @@ fn make_plain<S: InstructionSet + Drop>(buffer: &mut MachBuffer<S>, call: Call) 
     }
 }
 
+// Each call says that the set stays: no type can say of a call what it leaves as it was.
 impl<S: InstructionSet + Drop> Session<S> {
     /// A new buffer, with no region open.
     pub fn new(heap: Global, set: S) -> Result<Session<S>, AllocError>

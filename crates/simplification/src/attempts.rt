@@ -9,7 +9,7 @@ use crate::rules::{Outcome, Rule};
 use slices::labels::{count_standing, resolve};
 use tables::tables::Tables;
 
-// The last branch is cut: labels at the tail move to its start.
+// The last branch is cut: labels at the tail move to its start. That a branch stands is true of a moment, so no type has it.
 fn cut_last_branch(tables: &mut Tables)
     requires { 0 < vec_len tables.old.branches.rows }
     ensures { view tables.new ≡ cut (view tables.old) }

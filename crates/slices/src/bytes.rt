@@ -4,6 +4,7 @@ ghost use Rattle.model.specs.Calls.{widened};
 ghost use Rattle.model.specs.Code.{overwritten, padding, is_alignment};
 
 /// Whether a number is a power of two up to 64.
+// By its seven values, as the definition has it.
 pub fn is_alignment_number(n: u32) -> bool
     ensures { result ≡ is_alignment n }
 {

@@ -2,7 +2,7 @@
 ghost use Rattle.std.specs.Prelude.{◌≡◌};
 ghost use Rattle.model.specs.Fixups.{least_deadline};
 
-use model::rows::{Fixup, UNKNOWN};
+use model::rows::{Fixup, LATEST};
 
 /// The least deadline of some fixups, at most 4,294,967,295.
 pub fn least_of(fixups: &[Fixup]) -> u64
@@ -11,5 +11,5 @@ pub fn least_of(fixups: &[Fixup]) -> u64
     fixups
         .iter()
         .map(|fixup| fixup.deadline)
-        .fold(UNKNOWN as u64, |least, deadline| least.min(deadline))
+        .fold(LATEST, |least, deadline| least.min(deadline))
 }

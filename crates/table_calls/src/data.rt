@@ -9,6 +9,7 @@ use slices::bytes::{is_alignment_number, padding_of};
 use tables::tables::Tables;
 
 /// Appends bytes, which may trap if the trap code is not 0.
+// A trap code of 0 is the source's word for no trap, and one over 255 is refused: so it is no Option, and no u8.
 pub fn put_data(tables: &mut Tables, trap: u32, bytes: &[u8]) -> Result<u32, Refusal>
     ensures { (result, view tables.new) ≡ put_data (view tables.old) trap bytes.now }
 {

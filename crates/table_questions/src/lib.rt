@@ -23,6 +23,7 @@ pub fn cur_offset(tables: &Tables) -> u32
 }
 
 /// The offset that a label resolves to along its aliases, or 4,294,967,295 where it is unbound.
+// The number is the source's answer, so that this is no Option.
 pub fn resolve_label_offset(tables: &Tables, label: u32) -> Result<u32, Refusal>
     ensures { result ≡ resolve_label_offset (view tables.now) label }
 {

@@ -51,6 +51,7 @@ impl Tally {
     }
 
     /// Counts an encoding of a kind.
+    // A yes or no with no value beside it: what went wrong is printed, not counted.
     pub fn count(&mut self, vector: &Vector, is_equal: bool) -> Result<(), AllocError>
         ensures { self.new.whole ≡ added self.old.whole is_equal }
     {

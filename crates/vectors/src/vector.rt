@@ -42,7 +42,7 @@ pub enum Fault {
     Reads(i64),
 }
 
-// Shows why a set turns a displacement away: only `isa` may write an impl of `Display` for its types.
+// Shows why a set turns a displacement away: only `isa` may write an impl of `Display` for its types, and it has no texts.
 #[derive(Clone, Copy)]
 struct Reason(PatchRefusal);
 

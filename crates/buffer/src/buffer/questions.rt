@@ -9,7 +9,7 @@ ghost use Rattle.buffer.specs.View.{view};
 use super::MachBuffer;
 use isa::InstructionSet;
 use model::Refusal;
-use model::rows::{PlacedConstant, Trap, UNKNOWN};
+use model::rows::{LATEST, PlacedConstant, Trap};
 use table_questions::{
     code, cur_offset, held_deadline, labels_len, placed_constants, requested_room,
     resolve_label_offset, traps, waiting_len,
@@ -37,7 +37,7 @@ impl<S: InstructionSet + Drop> MachBuffer<S> {
         let veneers = waiting_len(&self.tables) as u64 * self.set.worst_case_veneer_size() as u64;
         let traps = self.tables.deferred.rows.len() as u64 * self.set.trap_opcode().len() as u64;
         let code = cur_offset(&self.tables) as u64 + distance as u64;
-        (code + veneers + requested_room(&self.tables) + traps).min(UNKNOWN as u64)
+        (code + veneers + requested_room(&self.tables) + traps).min(LATEST)
     }
 
     /// Whether a fixup may come out of reach if so many bytes follow before the next island.

@@ -15,6 +15,8 @@ use table_questions::cur_offset;
 use tables::capacities::MAX_BRANCHES;
 
 // Whether bytes can be a use of a kind: as many as it patches, and reading 0 where it adds.
+// That the kind exists stands in no type: a value that is a kind of a set would borrow the set from the buffer, which
+// changes itself while it has the kind.
 fn can_be_use<S: InstructionSet>(set: &S, kind: u32, bytes: &[u8]) -> bool
     requires { kind < (S.meaning set.now).kinds }
     ensures { result ≡ is_use (S.meaning set.now) kind bytes.now }
@@ -51,6 +53,8 @@ impl<S: InstructionSet + Drop> MachBuffer<S> {
     }
 
     // Appends bytes with a fixup for them.
+    // That there is room is true of a moment, not of the buffer, so it stands in no type. A use needs no room for a branch,
+    // so that this is not the function below with no branch.
     fn append(&mut self, label: u32, kind: u32, bytes: &[u8])
         requires kind { kind < (S.meaning self.old.set).kinds }
         requires fixups { vec_len self.old.tables.fresh.rows + vec_len self.old.tables.held.rows < 4096 }

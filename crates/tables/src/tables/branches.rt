@@ -57,7 +57,7 @@ impl Tables {
         self.branches.rows.push_reserved(branch);
     }
 
-    /// Appends a branch and a fixup for it, where there is room for both.
+    /// Appends a branch and a fixup for it, where there is room for both. The fresh deadline becomes `soon` at the latest.
     pub fn append_branch(&mut self, fixup: Fixup, soon: u64, bytes: &[u8], inverted: Option<&[u8]>)
         requires some { 0 < length bytes.now }
         requires few { length bytes.now ≤ 8 }

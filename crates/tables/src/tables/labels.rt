@@ -9,7 +9,7 @@ use super::Tables;
 use crate::capacities::MAX_LABELS;
 use crate::table::Table;
 use model::Refusal;
-use model::rows::{Label, UNKNOWN};
+use model::rows::{LATEST, Label};
 use slices::labels::{alias_labels, move_labels};
 use std::alloc::{AllocError, Global};
 
@@ -23,7 +23,7 @@ impl Tables {
             labels: Table::new(heap)?,
             fresh: Table::new(heap)?,
             held: Table::new(heap)?,
-            deadline: UNKNOWN as u64,
+            deadline: LATEST,
             branches: Table::new(heap)?,
             deferred: Table::new(heap)?,
             traps: Table::new(heap)?,
