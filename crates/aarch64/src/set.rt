@@ -69,6 +69,7 @@ fn word_of(code: &[u8], at: usize) -> u32
     read_word(&code[at..at + 4])
 }
 
+// Word by word, as the meaning compares them.
 fn begins_long_veneer(code: &[u8]) -> bool
     ensures { result ≡ is_long_veneer code.now }
 {
@@ -114,7 +115,7 @@ impl InstructionSet for AArch64 {
         }
     }
 
-    // Displacements are in two's complement.
+    // Displacements are in two's complement. Each set says so itself, since another may reach back less.
     fn max_neg_range(&self, kind: u32) -> u32 {
         self.max_pos_range(kind) + 1
     }

@@ -14,6 +14,7 @@ pub enum Format {
     Whole,
 }
 
+// That a format is good is asked by each method: an enum has no ghost field, and in a struct it would be taken out each time.
 impl Format {
     /// The word with a displacement's bits in the field, or added.
     pub fn rewrite(&self, code: u32, bits: u32) -> u32

@@ -33,6 +33,7 @@ pub fn scattered(pieces: &[Piece], code: u32, number: u32) -> u32
     requires { All WithinWord pieces.now }
     ensures { result ≡ scatter pieces.now code number }
 {
+    // A loop: by a fold it was not shown that each piece may be copied.
     let mut code = code;
     for piece in pieces.iter().rev() {
         code = copy_piece(code, *piece, number);
@@ -46,6 +47,7 @@ pub fn gathered(pieces: &[Piece], code: u32) -> u32
     requires number_fits { gather pieces.now code < 2 ^ 32 }
     ensures { result ≡ gather pieces.now code }
 {
+    // A loop: by a sum it was not shown that each piece may be read.
     let mut number = 0;
     for piece in pieces {
         number += ((get_field(code, piece.at, piece.wide) as u64) << piece.from) as u32;

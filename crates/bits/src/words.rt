@@ -5,6 +5,7 @@ ghost use Rattle.std.specs.Int.{cast_unsigned, w32};
 ghost use Rattle.bits.specs.Words.{word, to_bytes};
 
 /// Four bytes as a word, little-endian.
+// A slice with its length in a clause, no array: sets are lent slices, and would make an array in each method.
 pub fn read_word(bytes: &[u8]) -> u32
     requires { length bytes.now ≡ 4 }
     ensures { result ≡ word 4 bytes.now }

@@ -18,6 +18,7 @@ pub trait InstructionSet {
     fn kinds(&self) -> u32
         ensures { result ≡ (meaning self.now).kinds };
 
+    // That a kind is one of the set's stands in no type: kinds are numbers at the interface, by a rule of the project.
     /// The farthest that a use reaches ahead.
     fn max_pos_range(&self, kind: u32) -> u32
         requires { kind < (meaning self.now).kinds }
@@ -64,6 +65,7 @@ pub trait InstructionSet {
         requires { OfKind (meaning self.now) kind bytes.old }
         ensures { bytes.new ≡ (meaning self.now).inverted kind bytes.old };
 
+    // A question and a size, no Option: the methods are those of the source's trait.
     /// Whether the kind has a veneer.
     fn supports_veneer(&self, kind: u32) -> bool
         requires { kind < (meaning self.now).kinds }
@@ -79,6 +81,7 @@ pub trait InstructionSet {
     fn worst_case_veneer_size(&self) -> u32
         ensures { result ≡ (meaning self.now).worst };
 
+    // A pair of numbers, by a rule of the project.
     /// Writes the veneer, and answers the place of its own use in it and that use's kind.
     fn generate_veneer(&self, kind: u32, buffer: &mut [u8]) -> (u32, u32)
         requires kind_bound { kind < (meaning self.now).kinds }

@@ -116,6 +116,7 @@ fn branch_at_head<S: WordSet>(set: &S, kinds: &[u32], code: &[u8]) -> Option<Jum
     requires { All (λ k. k < (S.encoding set.now).kinds) kinds.now }
     ensures { result ≡ branch_at_head (S.encoding set.now) kinds.now code.now }
 {
+    // A loop: by `find_map` it was not shown which branch is found.
     for kind in kinds {
         let branch = branch_of(set, *kind, code);
         if branch.is_some() {

@@ -39,7 +39,7 @@ impl InstructionSet for RiscV {
         }
     }
 
-    // Displacements are in two's complement.
+    // Displacements are in two's complement. Each set says so itself, since another may reach back less.
     fn max_neg_range(&self, kind: u32) -> u32 {
         self.max_pos_range(kind) + 1
     }
