@@ -6,16 +6,14 @@ use Rattle.bits.specs.Fields.{get, flip, piece}
 use Rattle.bits.proofs.Scattered.{apart, laid}
 use Rattle.bits.proofs.Senses.{get-flip, sense_flip}
 use Rattle.isa.specs.declared.jumps.Condition.{Condition}
-use Rattle.isa.specs.declared.jumps.Family.{Family}
-use Rattle.isa.specs.declared.jumps.Family.TheVariants.{Flags, Zero, Bit}
+use Rattle.isa.specs.declared.jumps.Condition.TheVariants.{Flags, Zero, Bit}
 use Rattle.isa.specs.declared.jumps.Role.{Role}
 use Rattle.isa.specs.declared.jumps.Role.TheVariants.{Conditional}
-use Rattle.isa.specs.Roles.{family_index}
 use Rattle.isa.proofs.Inversions.{Turning, Conditionals}
 use Rattle.isa.proofs.Conditionals.{passed, no_conditional, never_conditional}
 use Rattle.isa.specs.Words.{turned}
 use Rattle.aarch64.specs.Meaning.{aarch64_words}
-use Rattle.aarch64.specs.Roles.{condition, is_kept, is_flags, sense_bit, register_role, test_role, compare_role, flags_role, branch19_role, role_of}
+use Rattle.aarch64.specs.Roles.{is_kept, is_flags, sense_bit, register_role, test_role, compare_role, flags_role, branch19_role, role_of}
 use Rattle.aarch64.specs.KindTables.{below_6}
 use Rattle.aarch64.specs.RoleLaws.{p14, p19, flags_bits}
 
@@ -34,8 +32,9 @@ test_sense w c s e =
     cond-false (is_flags w) 0 24 (not_flags w 0x1b refl (eqb-true (get 25 6 w) 0x1b t))
 
 -- a register's test keeps its place outside the sense
-register_turned : (f : Family) (n a b w : ℕ) (c : Condition) (s : Bool) → T (apart (piece 24 1 0) (piece a b 0)) → register_role f n (get a b w) w ≡ Some (Conditional c s)
-    → register_role f n (get a b (flip 24 w)) (flip 24 w) ≡ Some (Conditional c (not s))
+register_turned : (f : ℕ → ℕ → Condition) (n a b w : ℕ) (c : Condition) (s : Bool) → T (apart (piece 24 1 0) (piece a b 0))
+    → register_role n (f (get a b w) (get 0 5 w)) w ≡ Some (Conditional c s)
+    → register_role n (f (get a b (flip 24 w)) (get 0 5 (flip 24 w))) (flip 24 w) ≡ Some (Conditional c (not s))
 register_turned f n a b w c s t e =
     let k = get-flip 24 in
     let p = passed _ _ c _ s e in
@@ -56,13 +55,13 @@ by_flags w P f g =
     ]
 
 test_turned : (w : ℕ) (c : Condition) (s : Bool) → test_role w ≡ Some (Conditional c s) → test_role (turned aarch64_words w) ≡ Some (Conditional c (not s))
-test_turned w c s e = ap (λ (p : ℕ). test_role (flip p w)) (test_sense w c s e) ∙ register_turned Bit 0x1b 19 5 w c s tt e
+test_turned w c s e = ap (λ (p : ℕ). test_role (flip p w)) (test_sense w c s e) ∙ register_turned (λ t r. Bit t r) 0x1b 19 5 w c s tt e
 
 turned_19 : (w : ℕ) (c : Condition) (s : Bool) → branch19_role w ≡ Some (Conditional c s) → branch19_role (turned aarch64_words w) ≡ Some (Conditional c (not s))
 turned_19 w c s =
     by_flags w (λ p r. r ≡ Some (Conditional c s) → branch19_role (flip p w) ≡ Some (Conditional c (not s)))
     (λ f e. rw (get-flip 0 25 7 w tt, f) (flags_turned w c s e))
-    (λ f e. rw (get-flip 24 25 7 w tt, f) (register_turned Zero 0x1a 31 1 w c s tt e))
+    (λ f e. rw (get-flip 24 25 7 w tt, f) (register_turned (λ t r. Zero t r) 0x1a 31 1 w c s tt e))
 
 -- turning does not move the sense
 sense_turned : (w : ℕ) → sense_bit (turned aarch64_words w) ≡ sense_bit w
@@ -85,22 +84,22 @@ sense_19 w c s =
     by_flags w (λ p r. r ≡ Some (Conditional c s) → nat_eq (get p 1 w) 1 ≡ s)
     (λ f e. (passed _ _ c _ s e).sense) (λ f e. (passed _ _ c _ s e).sense)
 
--- and different families
+-- and test in different ways
 place_19 : (v w : ℕ) (c : Condition) (s : Bool) → branch19_role v ≡ Some (Conditional c s) → branch19_role w ≡ Some (Conditional c s) → sense_bit v ≡ sense_bit w
 place_19 v w c s e f =
     elim (cases_Bool (is_flags v)) [
       | inl a ↦ elim (cases_Bool (is_flags w)) [
         | inl b ↦ rw (a, b)
-        | inr b ↦ absurd (apart _ _ _ _ (passed _ _ c _ s (rw a at e)).condition (passed _ _ c _ s (rw b at f)).condition)
+        | inr b ↦ absurd (apart _ _ _ (passed _ _ c _ s (rw a at e)).condition (passed _ _ c _ s (rw b at f)).condition)
       ]
       | inr a ↦ elim (cases_Bool (is_flags w)) [
-        | inl b ↦ absurd (apart _ _ _ _ (passed _ _ c _ s (rw b at f)).condition (passed _ _ c _ s (rw a at e)).condition)
+        | inl b ↦ absurd (apart _ _ _ (passed _ _ c _ s (rw b at f)).condition (passed _ _ c _ s (rw a at e)).condition)
         | inr b ↦ rw (a, b)
       ]
     ]
   where
-    apart : (l m n o : ℕ) → condition Flags l m ≡ c → condition Zero n o ≢ c
-    apart l m n o g h = let z : ◌≡◌ {A = ℕ} 0 1 = ap (λ (x : Condition). family_index x.family) (g ∙ sym h) in omega arith
+    apart : (l m n : ℕ) → Flags l ≡ c → Zero m n ≢ c
+    apart l m n g h = let z : ◌≡◌ {A = ℕ} 0 1 = cc in omega arith
 
 -- only words of the first two kinds are conditional
 by_kind : (P : ℕ → Type 0) (w : ℕ) (c : Condition) (s : Bool) → (test_role w ≡ Some (Conditional c s) → P 0) → (branch19_role w ≡ Some (Conditional c s) → P 1)

@@ -1,20 +1,9 @@
 // Which words are branches.
 ghost use Rattle.std.specs.Prelude.{◌≡◌};
-ghost use Rattle.aarch64.specs.Roles.{condition, is_kept, is_flags, register_role, test_role, compare_role, flags_role, branch19_role, jump_role, sense_bit};
+ghost use Rattle.aarch64.specs.Roles.{is_kept, is_flags, register_role, test_role, compare_role, flags_role, branch19_role, jump_role, sense_bit};
 
 use bits::get_field;
-use isa::{Condition, Family, Role};
-
-fn condition_of(family: Family, test: u32, register: u32) -> Condition
-    ensures { result ≡ condition family test register }
-{
-    Condition {
-        family,
-        test,
-        first: register,
-        second: 0,
-    }
-}
+use isa::{Condition, Role};
 
 // Veneers change the registers 16 and 17.
 fn is_kept_register(code: u32) -> bool
@@ -23,13 +12,13 @@ fn is_kept_register(code: u32) -> bool
     get_field(code, 1, 4) != 8
 }
 
-// A test of a register, by the opcode and by what is tested of the register.
-fn register_role_of(code: u32, opcode: u32, family: Family, test: u32) -> Option<Role>
-    ensures { result ≡ register_role family opcode test code }
+// A test of a register, by the opcode and the condition.
+fn register_role_of(code: u32, opcode: u32, condition: Condition) -> Option<Role>
+    ensures { result ≡ register_role opcode condition code }
 {
     if get_field(code, 25, 6) == opcode && is_kept_register(code) {
         Some(Role::Conditional {
-            condition: condition_of(family, test, get_field(code, 0, 5)),
+            condition,
             sense: get_field(code, 24, 1) == 1,
         })
     } else {
@@ -41,14 +30,22 @@ fn register_role_of(code: u32, opcode: u32, family: Family, test: u32) -> Option
 pub fn test_role_of(code: u32) -> Option<Role>
     ensures { result ≡ test_role code }
 {
-    register_role_of(code, 0x1b, Family::Bit, get_field(code, 19, 5))
+    let bit = Condition::Bit {
+        test: get_field(code, 19, 5),
+        register: get_field(code, 0, 5),
+    };
+    register_role_of(code, 0x1b, bit)
 }
 
 // CBZ and CBNZ.
 fn compare_role_of(code: u32) -> Option<Role>
     ensures { result ≡ compare_role code }
 {
-    register_role_of(code, 0x1a, Family::Zero, get_field(code, 31, 1))
+    let zero = Condition::Zero {
+        test: get_field(code, 31, 1),
+        register: get_field(code, 0, 5),
+    };
+    register_role_of(code, 0x1a, zero)
 }
 
 // B.cond, and words beside it that are none.
@@ -57,7 +54,9 @@ fn flags_role_of(code: u32) -> Option<Role>
 {
     if get_field(code, 24, 1) == 0 && get_field(code, 4, 1) == 0 && get_field(code, 1, 3) != 7 {
         Some(Role::Conditional {
-            condition: condition_of(Family::Flags, get_field(code, 1, 3), 0),
+            condition: Condition::Flags {
+                test: get_field(code, 1, 3),
+            },
             sense: get_field(code, 0, 1) == 1,
         })
     } else {

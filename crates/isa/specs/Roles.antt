@@ -1,20 +1,17 @@
 -- Conditions compared, and opposite roles.
 use Rattle.std.specs.Prelude.{ℕ, Bool, true, false, cond, not, ◌&&◌, List, [], ◌∷◌, Some, None, Option, ◌==◌}
-use Rattle.isa.specs.declared.jumps.Family.{Family}
-use Rattle.isa.specs.declared.jumps.Family.TheVariants.{Flags, Zero, Bit, Compare}
 use Rattle.isa.specs.declared.jumps.Condition.{Condition}
+use Rattle.isa.specs.declared.jumps.Condition.TheVariants.{Flags, Zero, Bit, Compare}
 use Rattle.isa.specs.declared.jumps.Role.{Role}
 use Rattle.isa.specs.declared.jumps.Role.TheVariants.{Unconditional, Conditional}
 
--- the place of a family in its list
-abbrev pub family_index : Family → ℕ
-family_index Flags = 0
-family_index Zero = 1
-family_index Bit = 2
-family_index Compare = 3
-
+-- two conditions of one way of testing, with the same test and registers
 abbrev pub same_condition : Condition → Condition → Bool
-same_condition c d = family_index c.family == family_index d.family && (c.test == d.test && (c.first == d.first && c.second == d.second))
+same_condition (Flags t) (Flags u) = t == u
+same_condition (Zero t r) (Zero u s) = t == u && r == s
+same_condition (Bit t r) (Bit u s) = t == u && r == s
+same_condition (Compare t a b) (Compare u c d) = t == u && (a == c && b == d)
+same_condition _ _ = false
 
 -- two lists of bytes are the same
 abbrev pub same : List ℕ → List ℕ → Bool

@@ -1,27 +1,17 @@
 // What bytes do when they are run: the words in which a set says it.
 
-/// What a conditional branch tests. Each is a way in which a processor tests; `Condition` says of what.
+/// The condition of a branch: the way in which a processor tests, which of its tests, and the registers tested. Each
+/// condition has one truth, so a set gives two branches one condition only where it means them to jump together.
 #[derive(Clone, Copy, PartialEq, Eq, Debug)]
-pub enum Family {
+pub enum Condition {
     /// the flags, as B.cond
-    Flags,
+    Flags { test: u32 },
     /// a register against zero, as CBZ and CBNZ
-    Zero,
+    Zero { test: u32, register: u32 },
     /// one bit of a register, as TBZ and TBNZ
-    Bit,
+    Bit { test: u32, register: u32 },
     /// two registers against each other, as BEQ and BLT
-    Compare,
-}
-
-/// The condition of a branch: the family, which of the family's tests, and the registers tested, 0 where there is
-/// none. Each condition has one truth, so a set gives two branches one condition only where it means them to jump
-/// together.
-#[derive(Clone, Copy, PartialEq, Eq, Debug)]
-pub struct Condition {
-    pub family: Family,
-    pub test: u32,
-    pub first: u32,
-    pub second: u32,
+    Compare { test: u32, first: u32, second: u32 },
 }
 
 /// The role of a branch. A use's bytes have one exactly where they are a branch that the buffer may move or remove.

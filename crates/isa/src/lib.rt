@@ -19,7 +19,7 @@ mod refusals;
 mod set;
 pub mod words;
 
-pub use jumps::{Condition, Family, Jump, Role};
+pub use jumps::{Condition, Jump, Role};
 pub use patch::{check_patch, checked_patch, is_inversion};
 pub use refusals::PatchRefusal;
 pub use set::InstructionSet;

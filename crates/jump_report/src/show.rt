@@ -1,27 +1,28 @@
 // Reports as text.
 use crate::report::{JumpReport, VeneerReport};
 use crate::text::Hex;
-use isa::{Condition, Family, Jump, Role};
+use isa::{Condition, Jump, Role};
 use std::fmt;
 
 // Shows what is of `isa`: only a crate itself may write an impl of `Display` for its types.
 #[derive(Clone, Copy)]
 struct Shown<T>(T);
 
-// The test has its number in the set; of a register the family says what is tested.
+// The test has its number in the set.
 impl fmt::Display for Shown<Condition> {
     fn fmt<W: fmt::Write>(&self, f: &mut fmt::Formatter<W>) -> fmt::Result {
-        let Condition {
-            family,
-            test,
-            first,
-            second,
-        } = self.0;
-        match family {
-            Family::Flags => write!(f, "flags {test}"),
-            Family::Zero => write!(f, "nonzero {test} of register {first}"),
-            Family::Bit => write!(f, "bit {test} of register {first}"),
-            Family::Compare => write!(f, "compare {test} of registers {first} and {second}"),
+        match self.0 {
+            Condition::Flags { test } => write!(f, "flags {test}"),
+            Condition::Zero { test, register } => write!(
+                f,
+                "nonzero {test} of register {register}"
+            ),
+            Condition::Bit { test, register } => write!(f, "bit {test} of register {register}"),
+            Condition::Compare {
+                test,
+                first,
+                second,
+            } => { write!(f, "compare {test} of registers {first} and {second}") }
         }
     }
 }

@@ -2,13 +2,13 @@
 use Rattle.std.specs.Prelude.{ℕ, cond, not, ◌&&◌, Some, None, Option, ◌==◌}
 use Rattle.bits.specs.Fields.{get}
 use Rattle.isa.specs.declared.jumps.Condition.{Condition}
-use Rattle.isa.specs.declared.jumps.Family.TheVariants.{Compare}
+use Rattle.isa.specs.declared.jumps.Condition.TheVariants.{Compare}
 use Rattle.isa.specs.declared.jumps.Role.{Role}
 use Rattle.isa.specs.declared.jumps.Role.TheVariants.{Unconditional, Conditional}
 
 -- which comparison, and of which registers
 abbrev pub comparison : ℕ → Condition
-comparison w = record { family = Compare; test = get 13 2 w; first = get 15 5 w; second = get 20 5 w }
+comparison w = Compare (get 13 2 w) (get 15 5 w) (get 20 5 w)
 
 -- BEQ and BNE, BLT and BGE, BLTU and BGEU: the opcode, bits 6 to 0, is 1100011, and bits 14 and 13 are not 01. Bit
 -- 12 tells the two of a pair apart.

@@ -3,13 +3,12 @@ ghost use Rattle.std.specs.Prelude.{◌≡◌};
 ghost use Rattle.riscv.specs.Roles.{comparison, branch_role, jump_role};
 
 use bits::get_field;
-use isa::{Condition, Family, Role};
+use isa::{Condition, Role};
 
 fn comparison_of(code: u32) -> Condition
     ensures { result ≡ comparison code }
 {
-    Condition {
-        family: Family::Compare,
+    Condition::Compare {
         test: get_field(code, 13, 2),
         first: get_field(code, 15, 5),
         second: get_field(code, 20, 5),

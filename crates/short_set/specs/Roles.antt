@@ -2,13 +2,13 @@
 use Rattle.std.specs.Prelude.{ℕ, ◌+◌, cond, ◌&&◌, Some, None, Option, ◌==◌, nat_lt}
 use Rattle.bits.specs.Fields.{get}
 use Rattle.isa.specs.declared.jumps.Condition.{Condition}
-use Rattle.isa.specs.declared.jumps.Family.TheVariants.{Flags}
+use Rattle.isa.specs.declared.jumps.Condition.TheVariants.{Flags}
 use Rattle.isa.specs.declared.jumps.Role.{Role}
 use Rattle.isa.specs.declared.jumps.Role.TheVariants.{Unconditional, Conditional}
 
 -- which test of the flags
 abbrev pub condition : ℕ → Condition
-condition w = record { family = Flags; test = get 9 3 w; first = 0; second = 0 }
+condition w = Flags (get 9 3 w)
 
 -- The opcode, bits 7 to 0, is the kind's number and 1. A branch has its test in bits 11 to 9, and its sense in bit 8.
 -- A load is no branch.

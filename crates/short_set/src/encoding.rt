@@ -6,7 +6,7 @@ ghost use Rattle.short_set.specs.Roles.{condition};
 use crate::set::{BRANCH, JUMP, LOAD, Short};
 use bits::{Format, Piece, get_field};
 use isa::words::WordSet;
-use isa::{Condition, Family, Role};
+use isa::{Condition, Role};
 
 // Bits 15 to 12, times 2, of branches and loads.
 const NEAR: Format = Format::Pieces {
@@ -41,11 +41,8 @@ const FAR_REACHING: Format = Format::Pieces {
 fn condition_of(code: u32) -> Condition
     ensures { result ≡ condition code }
 {
-    Condition {
-        family: Family::Flags,
+    Condition::Flags {
         test: get_field(code, 9, 3),
-        first: 0,
-        second: 0,
     }
 }
 
