@@ -6,7 +6,7 @@ ghost use Rattle.jump_report.specs.Hex.{from_library, hex_bytes, hex_text, Small
 ghost use Rattle.jump_report.specs.Sets.{name_of, set_named};
 
 use hex::FromHexError;
-use std::alloc::Global;
+use std::alloc::{AllocError, AllocFailed, Global};
 use std::fmt;
 use std::str::FromStr;
 use thiserror::Error;
@@ -57,6 +57,22 @@ pub enum HexError {
 }
 
 // By hand, since clauses name the error that `?` gives, and a derived `From` states none.
+impl From<AllocError> for HexError {
+    ghost from_gives = { λ _ r. r ≡ OutOfMemory };
+
+    fn from(_e: AllocError) -> HexError {
+        HexError::OutOfMemory
+    }
+}
+
+impl<T: Drop> From<AllocFailed<T>> for HexError {
+    ghost from_gives = { λ _ r. r ≡ OutOfMemory };
+
+    fn from(_e: AllocFailed<T>) -> HexError {
+        HexError::OutOfMemory
+    }
+}
+
 impl From<FromHexError> for HexError {
     ghost from_gives = { λ e r. r ≡ from_library e };
 

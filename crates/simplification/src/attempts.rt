@@ -91,6 +91,7 @@ fn turn_before(tables: &mut Tables) -> Outcome
         return Outcome::Passed;
     }
     let target = tables.last_branch_of().target;
+    // The branch before the last is written to by its number.
     let place = tables.branches.rows.len() - 2;
     cut_last_branch(tables);
     turn_round(tables, place, target);

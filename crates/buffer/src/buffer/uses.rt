@@ -15,6 +15,7 @@ use table_questions::cur_offset;
 use tables::capacities::MAX_BRANCHES;
 
 // Whether bytes can be a use of a kind: as many as it patches, and reading 0 where it adds.
+// Reading 0 as `is_fresh` of `isa` has it, which says so by `Fresh`, where the calls are defined by `is_use`.
 // That the kind exists stands in no type: a value that is a kind of a set would borrow the set from the buffer, which
 // changes itself while it has the kind.
 fn can_be_use<S: InstructionSet>(set: &S, kind: u32, bytes: &[u8]) -> bool
@@ -35,7 +36,8 @@ fn can_be_jump<S: InstructionSet>(set: &S, kind: u32, bytes: &[u8]) -> bool
 }
 
 impl<S: InstructionSet + Drop> MachBuffer<S> {
-    // The fixup of a use of a kind at the current offset, and the fresh deadline that it brings.
+    // The fixup of a use of a kind at the current offset, and the fresh deadline that it brings, which is no part of the fixup:
+    // it is the buffer's.
     fn use_here(&self, label: u32, kind: u32) -> (Fixup, u64)
         requires { kind < (S.meaning self.now.set).kinds }
         ensures fixup { result.0 ≡ fixup_at (S.meaning self.now.set) label (cur_offset (view self.now)) kind }
