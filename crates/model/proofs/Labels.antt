@@ -1,11 +1,11 @@
 -- Where labels stand: tests of a place, and what binding a label leaves as it was.
-use Rattle.std.proofs.Common.{◌≡◌, ℕ, Bool, true, false, ◌≢◌, ◌⊎◌, List, length, Some, None, Option, is_some, sym, refl, ap, ◌∙◌, inl, inr, length-set}
+use Rattle.std.proofs.Common.{◌≡◌, ℕ, Bool, true, false, not, ◌≢◌, ◌⊎◌, List, length, Some, None, Option, is_some, sym, refl, ap, ◌∙◌, inl, inr, length-set}
 use Rattle.std.proofs.lemmas.Bool.{eq-eqb, ne_eqb, eqb-true, eqb-false, cases_eq, false≢true}
 use Rattle.std.proofs.lemmas.Option.{none-some, same_Some}
 use Rattle.model.specs.declared.rows.Label.{Label}
 use Rattle.model.specs.declared.rows.Place.{Place}
 use Rattle.model.specs.declared.rows.Place.TheVariants.{Nowhere, At, AliasOf}
-use Rattle.model.specs.Labels.{offset_in, is_at, bound_if}
+use Rattle.model.specs.Labels.{offset_in, is_at, is_nowhere, bound_if}
 
 -- a test of a place, and what it says
 pub eq-is_at : (at : ℕ) (p : Place) → p ≡ At at → is_at at p ≡ true
@@ -54,9 +54,11 @@ pub known-is_some : (o : Option ℕ) → o ≢ None → is_some o ≡ true
 known-is_some None h = absurd (h refl)
 known-is_some (Some n) h = refl
 
-pub not_some-none : (o : Option ℕ) → is_some o ≡ false → o ≡ None
-not_some-none None e = refl
-not_some-none (Some n) e = absurd (false≢true (sym e))
+-- a place that is neither an offset nor an alias
+pub not_placed : (p : Place) → not (is_nowhere p) ≡ false → p ≡ Nowhere
+not_placed Nowhere e = refl
+not_placed (At n) e = absurd (false≢true (sym e))
+not_placed (AliasOf l) e = absurd (false≢true (sym e))
 
 -- binding a label keeps how many there are
 pub length-bound_if : (ls : List Label) (o : Option ℕ) (at : ℕ) → length (bound_if ls o at) ≡ length ls
