@@ -1,10 +1,10 @@
--- After every list of calls, a reserved label that stands nowhere and is no alias is pending.
-use Rattle.std.proofs.Common.{◌≡◌, ℕ, Bool, false, ◌||◌, List, is_some, refl, arith}
+-- After every list of calls, a reserved label that is unbound is pending.
+use Rattle.std.proofs.Common.{◌≡◌, ℕ, Bool, false, not, List, refl, arith}
 use Rattle.std.proofs.lemmas.Bool.{or_parts}
 use Rattle.isa.specs.Isa.{Isa}
 use Rattle.model.specs.State.{State, empty, cur_offset}
 use Rattle.model.specs.Code.{aligned}
-use Rattle.model.specs.Labels.{label_row}
+use Rattle.model.specs.Labels.{is_nowhere, label_row}
 use Rattle.model.specs.Constants.{constant_row}
 use Rattle.model.specs.Simplify.{last_branch, cut}
 use Rattle.model.specs.Calls.{is_taken}
@@ -33,7 +33,7 @@ rules_keep_awaited = record {
 }
 
 untaken_unreserved : (s : State) (l : ℕ) → is_taken s l ≡ false → (label_row s.labels l).reserved ≡ false
-untaken_unreserved s l e = (or_parts (is_some (label_row s.labels l).offset || is_some (label_row s.labels l).alias) _ e).1
+untaken_unreserved s l e = (or_parts (not (is_nowhere (label_row s.labels l).place)) _ e).1
 
 calls_keep_awaited : (i : Isa) → Kept i Awaited Awaited
 calls_keep_awaited i = record {

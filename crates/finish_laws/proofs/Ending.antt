@@ -1,7 +1,8 @@
 -- Finishing ends: the first island places every label that is waited for, and then chains fall.
-use Rattle.std.proofs.Common.{◌≡◌, ℕ, suc, ◌+◌, ◌<◌, Bool, true, false, not, ◌≢◌, ◌⊎◌, List, [], length, is_some, None, is_none, sym, refl, ◌∙◌, subst, inl, inr, arith}
+use Rattle.std.proofs.Common.{◌≡◌, ℕ, suc, ◌+◌, ◌<◌, Bool, true, false, not, ◌≢◌, ◌⊎◌, List, [], length, is_some, None, is_none, sym, refl, ap, ◌∙◌, subst, inl, inr, arith}
 use Rattle.std.specs.List.{AllByRecursion}
 use Rattle.std.proofs.ByRecursion.{All-weaker}
+use Rattle.std.proofs.lemmas.Option.{none-some}
 use Rattle.std.proofs.lemmas.Bool.{and_cases, cond_both, not-false}
 use Rattle.isa.specs.Isa.{Isa}
 use Rattle.isa.specs.Laws.{Lawful}
@@ -9,12 +10,12 @@ use Rattle.model.specs.declared.rows.Label.{Label}
 use Rattle.model.specs.declared.rows.Fixup.{Fixup}
 use Rattle.model.specs.declared.rows.Constant.{Constant}
 use Rattle.model.specs.State.{State}
-use Rattle.model.specs.Labels.{label_row, root, place_of, is_lost}
+use Rattle.model.specs.Labels.{offset_in, alias_in, label_row, root, place_of, is_lost}
 use Rattle.model.specs.Fates.{own_fixup}
 use Rattle.model.specs.Islands.{island}
 use Rattle.model.specs.Finish.{is_busy, islands_within, longest_chain, all_islands, unfit}
 use Rattle.model.specs.Uses.{InPlace}
-use Rattle.model.proofs.Labels.{some-known, is_some-known, known-is_some}
+use Rattle.model.proofs.Labels.{some-known, known-is_some, standing_at, neither}
 use Rattle.model.proofs.Orderly.{Orderly}
 use Rattle.model.proofs.Uses.{all_both}
 use Rattle.label_laws.specs.Leads.{Ends}
@@ -35,22 +36,22 @@ module _ (ls us : List Label) (cs : List Constant) (o : OrderlyLabels ls) (alike
   end_found : Ends ls l
   end_found = ends ls (orderly_within ls o) exists (o.ends l).1
 
-  still_unaliased : (label_row us (root ls l)).alias ≡ None
+  still_unaliased : alias_in (label_row us (root ls l)).place ≡ None
   still_unaliased = alike.aliases (root ls l) ∙ end_found.unaliased
 
-  still_placed : NeverForward (label_row ls (root ls l)) (label_row us (root ls l)) → (label_row us (root ls l)).offset ≢ None
-  still_placed (inl a) = absurd (a.aliased still_unaliased)
-  still_placed (inr p) = some-known p.to _ p.stands
+  still_placed : NeverForward (label_row ls (root ls l)) (label_row us (root ls l)) → offset_in (label_row us (root ls l)).place ≢ None
+  still_placed (inl a) = absurd (none-some a.of_label (sym still_unaliased ∙ ap alias_in a.aliased))
+  still_placed (inr p) = some-known p.to _ (ap offset_in p.stands)
 
-  now_placed : (label_row ls (root ls l)).reserved ≡ true → (label_row us (root ls l)).offset ≢ None
-  now_placed e z = none (root ls l) tt (record { reserved = alike.reserved (root ls l) ∙ e; nowhere = z; unaliased = still_unaliased })
+  now_placed : (label_row ls (root ls l)).reserved ≡ true → offset_in (label_row us (root ls l)).place ≢ None
+  now_placed e z = none (root ls l) tt (record { reserved = alike.reserved (root ls l) ∙ e; nowhere = neither _ z still_unaliased })
 
-  placed : (is_none (label_row ls (root ls l)).offset ≡ false) ⊎ (not (label_row ls (root ls l)).reserved ≡ false) → (label_row us (root ls l)).offset ≢ None
-  placed (inl e) = still_placed ((later.moves (root ls l) end_found.exists).falls (is_some-known _ (not-false _ e)))
+  placed : (is_none (offset_in (label_row ls (root ls l)).place) ≡ false) ⊎ (not (label_row ls (root ls l)).reserved ≡ false) → offset_in (label_row us (root ls l)).place ≢ None
+  placed (inl e) = let at = standing_at _ e in still_placed ((later.moves (root ls l) end_found.exists).falls at.0 at.1)
   placed (inr e) = now_placed (not-false _ e)
 
   resolved : is_lost ls l ≡ false → is_some (place_of us l) ≡ true
-  resolved e = subst (λ (m : ℕ). is_some (label_row us m).offset ≡ true) (sym (same-root ls us alike l)) (known-is_some _ (placed (and_cases (is_none (label_row ls (root ls l)).offset) _ e)))
+  resolved e = subst (λ (m : ℕ). is_some (offset_in (label_row us m).place) ≡ true) (sym (same-root ls us alike l)) (known-is_some _ (placed (and_cases (is_none (offset_in (label_row ls (root ls l)).place)) _ e)))
 
 -- a use of a kind of the set, for a label of the table that is not lost
 record Ready (i : Isa) (ls : List Label) (f : Fixup) : Type 0 where
@@ -99,7 +100,7 @@ module _ (i : Isa) (lawful : Lawful i) (force : Bool) (s : State) (fit : Fit i s
       let w : Brings (Written (Ready i s.labels) s.labels) p =
       island_writes i (Ready i s.labels) (own_ready i lawful s.labels) force s
       (all_ready i s.labels s.code s.fresh fit.orderly.uses.fresh_in_place fit.sound.fresh lost.0)
-      (all_ready i s.labels s.code s.held fit.orderly.uses.held_in_place fit.sound.held lost.1) in
+      (all_ready i s.labels s.code s.held fit.orderly.uses.held_in_place fit.sound.held lost.1) fit.sound in
       let g : Goes s p.state = (island_gets i force 0 s fit.sound).holds in
       brings_weaker Left (λ r. Settled i r.labels (suc (longest_chain i)) r) settled p (brings_both (Written (Ready i s.labels) s.labels) (λ r. Goes s r × Awaited r) p w (g, island_awaited i force 0 s fit.awaited))
 

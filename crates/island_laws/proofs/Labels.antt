@@ -1,10 +1,11 @@
--- Islands bind only labels that stand nowhere and are no aliases.
-use Rattle.std.proofs.Common.{◌≡◌, ℕ, Bool, true, ◌≢◌, ◌⊎◌, List, [], ◌∷◌, map, Some, None, Option, sym, refl, ap, ◌∙◌, subst, inl, inr}
+-- Islands bind only labels that are unbound.
+use Rattle.std.proofs.Common.{◌≡◌, ℕ, Bool, ◌≢◌, List, [], ◌∷◌, map, Some, None, Option, sym, refl, ap, ◌∙◌}
 use Rattle.isa.specs.Isa.{Isa}
 use Rattle.model.specs.declared.rows.Label.{Label}
+use Rattle.model.specs.declared.rows.Place.TheVariants.{Nowhere}
 use Rattle.model.specs.declared.rows.DeferredTrap.{DeferredTrap}
 use Rattle.model.specs.State.{State}
-use Rattle.model.specs.Labels.{unbound, label_row, bound_at, bound_if}
+use Rattle.model.specs.Labels.{label_row, bound_at, bound_if}
 use Rattle.model.specs.Islands.{island}
 use Rattle.model.specs.Steps.{Call}
 use Rattle.model.specs.Runs.{run}
@@ -17,7 +18,7 @@ use Rattle.label_laws.proofs.Runs.{run_sound}
 
 -- it stands at an offset, or is an alias
 abbrev Placed : Label → Type 0
-Placed x = (x.offset ≢ None) ⊎ (x.alias ≢ None)
+Placed x = x.place ≢ Nowhere
 
 -- The tables of labels, and of traps and constants that are to be written under them; and the rows that are as in a table of
 -- before.
@@ -25,14 +26,10 @@ record RowsKept (ls : List Label) (s : State) : Type 0 where
   tables : Tables s.labels [] [] [] s.deferred s.constants s.requested
   rows : (l : ℕ) → Placed (label_row ls l) → label_row s.labels l ≡ label_row ls l
 
-not_placed : (reserved : Bool) → Placed (unbound reserved) → ⊥
-not_placed reserved (inl h) = h refl
-not_placed reserved (inr h) = h refl
-
 -- a label that waits for an island is bound
 bound_kept : (ls us : List Label) (w at : ℕ) → Waits us w → ((l : ℕ) → Placed (label_row ls l) → label_row us l ≡ label_row ls l) → (l : ℕ) → Placed (label_row ls l) → label_row (bound_at us w at) l ≡ label_row ls l
 bound_kept ls us w at x same l h =
-    let other : l ≢ w = λ e. not_placed true (subst Placed (sym (same l h) ∙ ap (label_row us) e ∙ x.row) h) in
+    let other : l ≢ w = λ e. h (ap (λ (y : Label). y.place) (sym (same l h) ∙ ap (label_row us) e ∙ x.row)) in
     bound_row us w at l other ∙ same l h
 
 bound_if_kept : (ls us : List Label) (o : Option ℕ) (at : ℕ) → Awaited us o → ((l : ℕ) → Placed (label_row ls l) → label_row us l ≡ label_row ls l) → (l : ℕ) → Placed (label_row ls l) → label_row (bound_if us o at) l ≡ label_row ls l
@@ -59,7 +56,7 @@ rows_kept i ls = record {
 }
 
 pub islands_move_no_label : (i : Isa) (calls : List Call) (force : Bool) (distance l : ℕ) → let s = (run i calls).state in
-    ((label_row s.labels l).offset ≢ None) ⊎ ((label_row s.labels l).alias ≢ None) → label_row (island i force distance s).state.labels l ≡ label_row s.labels l
+    (label_row s.labels l).place ≢ Nowhere → label_row (island i force distance s).state.labels l ≡ label_row s.labels l
 islands_move_no_label i calls force distance l =
     let s = (run i calls).state in
     let k = run_sound i calls in

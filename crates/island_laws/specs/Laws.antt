@@ -1,9 +1,10 @@
 -- What holds of every island, after any list of calls. Where an island breaks off, the laws are about the tables that it
 -- has reached.
-use Rattle.std.specs.Prelude.{◌≡◌, ℕ, ◌+◌, Bool, false, ◌≢◌, ◌⊎◌, List, None}
+use Rattle.std.specs.Prelude.{◌≡◌, ℕ, ◌+◌, Bool, false, ◌≢◌, ◌⊎◌, List}
 use Rattle.isa.specs.Isa.{Isa}
 use Rattle.isa.specs.Laws.{Lawful}
 use Rattle.model.specs.declared.rows.Fixup.{Fixup}
+use Rattle.model.specs.declared.rows.Place.TheVariants.{Nowhere}
 use Rattle.model.specs.State.{State}
 use Rattle.model.specs.Labels.{label_row}
 use Rattle.model.specs.Fixups.{waiting}
@@ -22,7 +23,7 @@ OfEveryIsland Law = (i : Isa) → Lawful i → (calls : List Call) → (run i ca
 abbrev pub IslandsMoveNoLabel : Type 0
 IslandsMoveNoLabel =
     (i : Isa) (calls : List Call) (force : Bool) (distance l : ℕ) → let s = (run i calls).state in
-    ((label_row s.labels l).offset ≢ None) ⊎ ((label_row s.labels l).alias ≢ None) → label_row (island i force distance s).state.labels l ≡ label_row s.labels l
+    (label_row s.labels l).place ≢ Nowhere → label_row (island i force distance s).state.labels l ≡ label_row s.labels l
 
 -- Of the code before an island, it changes nothing but fields of uses that wait; and the code only grows.
 abbrev pub IslandsWriteInFieldsOnly : Type 0

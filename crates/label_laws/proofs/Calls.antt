@@ -1,14 +1,15 @@
 -- Every call keeps the tables sound, and no label goes forward.
-use Rattle.std.proofs.Common.{◌≡◌, ℕ, ◌+◌, ◌<◌, Bool, true, false, cond, ◌||◌, leb, List, [], ◌∷◌, ◌++◌, length, is_some, Some, None, Option, refl, arith}
+use Rattle.std.proofs.Common.{◌≡◌, ℕ, ◌+◌, ◌<◌, Bool, true, false, cond, not, leb, List, [], ◌∷◌, ◌++◌, length, Some, None, Option, refl, arith}
 use Rattle.std.proofs.lemmas.Bool.{leb-false, ltb-false, or_parts, cond_both}
 use Rattle.std.proofs.ByRecursion.{All-push}
 use Rattle.isa.specs.Isa.{Isa}
 use Rattle.isa.specs.Patches.{inversion}
 use Rattle.model.specs.declared.refusals.Refusal.{Refusal}
+use Rattle.model.specs.declared.rows.Place.TheVariants.{Nowhere}
 use Rattle.model.specs.Capacities.{max_labels}
 use Rattle.model.specs.State.{State, cur_offset, with_constants, with_deferred, with_requested}
 use Rattle.model.specs.Full.{no_room, labels_full}
-use Rattle.model.specs.Labels.{label_row}
+use Rattle.model.specs.Labels.{is_nowhere, label_row}
 use Rattle.model.specs.Constants.{constant_row, label_constant}
 use Rattle.model.specs.Simplify.{simplified}
 use Rattle.model.specs.Calls.{no_label, add_label, is_taken, bind, append_use, append_branch, is_jump, get_label, bind_label, put_data, align_to, use_label_at_offset, add_branch, defer_trap, register_constant, request, get_label_for_constant, optimize_branches, start_patchable, close}
@@ -16,7 +17,7 @@ use Rattle.model.specs.Progress.{Progress}
 use Rattle.model.specs.Islands.{island, ended, emit_island}
 use Rattle.model.specs.Finish.{longest_chain, all_islands, unfit, concluded, finish_unless}
 use Rattle.model.specs.Steps.{Call, GetLabel, BindLabel, PutData, AlignTo, UseLabelAtOffset, AddUncondBranch, AddCondBranch, DeferTrap, RegisterConstant, GetLabelForConstant, OptimizeBranches, StartPatchable, EndPatchable, EmitIsland, Finish, CurOffset, ResolveLabelOffset, IslandNeeded, step}
-use Rattle.model.proofs.Labels.{not_some-none}
+use Rattle.model.proofs.Labels.{not_placed}
 use Rattle.label_laws.specs.Sound.{UseAmong, BranchAmong, Sound, Goes}
 use Rattle.label_laws.proofs.Edits.{pushed_keeps, bound_keeps}
 use Rattle.label_laws.proofs.Tables.{registered, labelled, trap_deferred, constant_requested, bound}
@@ -93,13 +94,11 @@ get_label_for_constant_gives s n k =
 -- a label is bound
 bind_goes : (s : State) (l : ℕ) → is_taken s l ≡ false → Sound s → Goes s (bind s l)
 bind_goes s l free k =
-    let a = or_parts (is_some (label_row s.labels l).offset || is_some (label_row s.labels l).alias) _ free in
-    let b = or_parts (is_some (label_row s.labels l).offset) _ a.0 in
-    let nowhere : (label_row s.labels l).offset ≡ None = not_some-none _ b.0 in
-    let plain : (label_row s.labels l).alias ≡ None = not_some-none _ b.1 in
+    let a = or_parts (not (is_nowhere (label_row s.labels l).place)) _ free in
+    let nowhere : (label_row s.labels l).place ≡ Nowhere = not_placed _ a.0 in
     record {
-      sound = bound s.labels s.branches s.fresh s.held s.deferred s.constants s.requested l (cur_offset s) nowhere plain a.1 k;
-      later = (bound_keeps s.labels l (cur_offset s) nowhere plain k.labels).later;
+      sound = bound s.labels s.branches s.fresh s.held s.deferred s.constants s.requested l (cur_offset s) nowhere a.1 k;
+      later = (bound_keeps s.labels l (cur_offset s) nowhere k.labels).later;
     }
 
 bound_gives : {X : Type 0} (s : State) (x : X) (l : ℕ) (skip : Bool) → is_taken s l ≡ false → Sound s → Gives s (x, simplified skip (bind s l))

@@ -1,14 +1,16 @@
 -- Edits of one label keep a table orderly, and no label goes forward.
-use Rattle.std.proofs.Common.{◌≡◌, ℕ, zero, suc, ◌+◌, ◌<◌, Bool, false, ◌≢◌, ◌⊎◌, List, [], ◌∷◌, ◌++◌, map, length, get_or, set, None, sym, refl, ap, subst, inl, inr, arith, length-set}
+use Rattle.std.proofs.Common.{◌≡◌, ℕ, zero, suc, ◌+◌, ◌<◌, Bool, false, ◌≢◌, ◌⊎◌, List, [], ◌∷◌, ◌++◌, map, length, get_or, set, sym, refl, ap, ◌∙◌, subst, inl, inr, arith, length-set}
 use Rattle.std.proofs.lemmas.Bool.{cases_eq}
+use Rattle.std.proofs.lemmas.Option.{none-some}
 use Rattle.std.proofs.lemmas.List.{length_push, get_or_append_left, get_or-set_same, get_or-set_other}
 use Rattle.std.proofs.ByRecursion.{All-push, All-set, All-weaker}
 use Rattle.model.specs.declared.rows.Label.{Label}
+use Rattle.model.specs.declared.rows.Place.TheVariants.{Nowhere}
 use Rattle.model.specs.Capacities.{max_labels}
-use Rattle.model.specs.Labels.{unbound, label_row, bound_at}
+use Rattle.model.specs.Labels.{offset_in, alias_in, unbound, label_row, bound_at}
 use Rattle.label_laws.specs.Moves.{Moves, Later}
 use Rattle.label_laws.specs.Sound.{Row, Orderly}
-use Rattle.label_laws.proofs.Orderly.{row_of, same_moves, same_aliases}
+use Rattle.label_laws.proofs.Orderly.{same_moves, same_aliases}
 
 -- an edit of a table
 pub record Keeps (ls us : List Label) : Type 0 where
@@ -16,7 +18,7 @@ pub record Keeps (ls us : List Label) : Type 0 where
   pub later : Later ls us
 
 -- one label more
-pushed_alias : (r : Bool) (ls : List Label) (l : ℕ) → (label_row (ls ++ unbound r ∷ []) l).alias ≡ (label_row ls l).alias
+pushed_alias : (r : Bool) (ls : List Label) (l : ℕ) → alias_in (label_row (ls ++ unbound r ∷ []) l).place ≡ alias_in (label_row ls l).place
 pushed_alias r [] zero = refl
 pushed_alias r [] (suc l) = refl
 pushed_alias r (x ∷ ls) zero = refl
@@ -24,7 +26,7 @@ pushed_alias r (x ∷ ls) (suc l) = pushed_alias r ls l
 
 wider : (n : ℕ) (x : Label) → Row n x → Row (n + 1) x
 wider n x (inl e) = inl e
-wider n x (inr r) = inr (record { to = r.to; alias = r.alias; among = omega (arith, r.among); nowhere = r.nowhere })
+wider n x (inr r) = inr (record { to = r.to; alias = r.alias; among = omega (arith, r.among) })
 
 pub pushed_row : (ls : List Label) (r : Bool) (l : ℕ) → l < length ls → label_row (ls ++ unbound r ∷ []) l ≡ label_row ls l
 pushed_row ls r l h = get_or_append_left ls (unbound r ∷ []) (unbound false) l h
@@ -38,7 +40,7 @@ pushed_keeps ls r h o = record {
   };
   later = record {
     more = rw length_push (omega arith);
-    moves = λ l k. same_moves _ _ (row_of ls l o) (pushed_row ls r l k);
+    moves = λ l k. same_moves _ _ (pushed_row ls r l k);
   };
 }
 
@@ -53,22 +55,22 @@ set_field g (y ∷ ls) (suc l) (suc k) x e = set_field g ls l k x e
 pub bound_row : (ls : List Label) (l at k : ℕ) → k ≢ l → label_row (bound_at ls l at) k ≡ label_row ls k
 bound_row ls l at k h = get_or-set_other ls l k _ (unbound false) h
 
-pub bound_keeps : (ls : List Label) (l at : ℕ) → (label_row ls l).offset ≡ None → (label_row ls l).alias ≡ None → Orderly ls → Keeps ls (bound_at ls l at)
-bound_keeps ls l at nowhere plain o = record {
+pub bound_keeps : (ls : List Label) (l at : ℕ) → (label_row ls l).place ≡ Nowhere → Orderly ls → Keeps ls (bound_at ls l at)
+bound_keeps ls l at nowhere o = record {
   orderly = record {
     few = rw length-set o.few;
-    rows = rw length-set (All-set (Row (length ls)) ls l _ (inl plain) o.rows);
-    ends = λ k. ((o.ends k).0, same_aliases ls (bound_at ls l at) (λ j. set_field (λ (x : Label). x.alias) ls l j _ refl) (o.ends k).1);
+    rows = rw length-set (All-set (Row (length ls)) ls l _ (inl refl) o.rows);
+    ends = λ k. ((o.ends k).0, same_aliases ls (bound_at ls l at) (λ j. set_field (λ (x : Label). alias_in x.place) ls l j _ (sym (ap alias_in nowhere))) (o.ends k).1);
   };
   later = record { more = rw length-set (omega arith); moves = λ k h. by k h (cases_eq k l) };
 }
   where
     here_too : l < length ls → Moves (label_row ls l) (label_row (bound_at ls l at) l)
-    here_too h = record { stays = λ z. absurd (z plain); falls = λ z. absurd (z nowhere); reserved = ap (λ (x : Label). x.reserved) (get_or-set_same ls l _ (unbound false) h) }
+    here_too h = record { stays = λ a e. absurd (none-some a (ap alias_in (sym nowhere ∙ e))); falls = λ from e. absurd (none-some from (ap offset_in (sym nowhere ∙ e))); reserved = ap (λ (x : Label). x.reserved) (get_or-set_same ls l _ (unbound false) h) }
 
     by : (k : ℕ) → k < length ls → (k ≡ l) ⊎ (k ≡ l → ⊥) → Moves (label_row ls k) (label_row (bound_at ls l at) k)
     by k h (inl e) = subst (λ (j : ℕ). j < length ls → Moves (label_row ls j) (label_row (bound_at ls l at) j)) (sym e) here_too h
-    by k h (inr n) = same_moves _ _ (row_of ls k o) (bound_row ls l at k n)
+    by k h (inr n) = same_moves _ _ (bound_row ls l at k n)
 
 -- every row edited
 pub mapped_row : (f : Label → Label) → f (unbound false) ≡ unbound false → (ls : List Label) (l : ℕ) → label_row (map f ls) l ≡ f (label_row ls l)

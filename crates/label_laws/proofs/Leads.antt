@@ -2,22 +2,22 @@
 use Rattle.std.proofs.Common.{◌≡◌, ℕ, zero, suc, ◌-◌, ◌<◌, ◌≤◌, List, length, Some, None, Option, unwrap_or, option_map, sym, refl, ap, ◌∙◌, subst, ⊎_elim, arith}
 use Rattle.std.proofs.lemmas.Option.{none-some, same_Some}
 use Rattle.model.specs.declared.rows.Label.{Label}
-use Rattle.model.specs.Labels.{label_row, root_within, root}
+use Rattle.model.specs.Labels.{alias_in, label_row, root_within, root}
 use Rattle.model.proofs.Labels.{cases_place}
 use Rattle.label_laws.specs.Leads.{Leads, here, on, Ends}
 use Rattle.label_laws.proofs.Pigeonhole.{pigeonhole}
 
 -- the aliases of a table are labels of it
 abbrev pub Within : List Label → Type 0
-Within ls = (l a : ℕ) → (label_row ls l).alias ≡ Some a → a < length ls
+Within ls = (l a : ℕ) → alias_in (label_row ls l).place ≡ Some a → a < length ls
 
 module _ (ls : List Label) where
   -- a label that is no alias stays, and one that is leads further
-  stays : (n l : ℕ) → (label_row ls l).alias ≡ None → root_within n ls l ≡ l
+  stays : (n l : ℕ) → alias_in (label_row ls l).place ≡ None → root_within n ls l ≡ l
   stays zero l h = refl
   stays (suc n) l h = ap (λ (o : Option ℕ). unwrap_or (option_map (λ a. root_within n ls a) o) l) h
 
-  goes_on : (n l a : ℕ) → (label_row ls l).alias ≡ Some a → root_within (suc n) ls l ≡ root_within n ls a
+  goes_on : (n l a : ℕ) → alias_in (label_row ls l).place ≡ Some a → root_within (suc n) ls l ≡ root_within n ls a
   goes_on n l a h = ap (λ (o : Option ℕ). unwrap_or (option_map (λ b. root_within n ls b) o) l) h
 
   -- how many aliases a way has
@@ -29,18 +29,18 @@ module _ (ls : List Label) where
   one_length : {l m k n : ℕ} → l ≡ k → (p : Leads ls l m) (q : Leads ls k n) → steps p ≡ steps q
   unfolding steps
   one_length e (here h) (here k) = refl
-  one_length e (here h) (on a k q) = absurd (none-some a (sym h ∙ (ap (λ (x : ℕ). (label_row ls x).alias) e ∙ k)))
-  one_length e (on a h p) (here k) = absurd (none-some a (sym k ∙ (ap (λ (x : ℕ). (label_row ls x).alias) (sym e) ∙ h)))
-  one_length e (on a h p) (on b k q) = ap suc (one_length (same_Some a b (sym h ∙ (ap (λ (x : ℕ). (label_row ls x).alias) e ∙ k))) p q)
+  one_length e (here h) (on a k q) = absurd (none-some a (sym h ∙ (ap (λ (x : ℕ). alias_in (label_row ls x).place) e ∙ k)))
+  one_length e (on a h p) (here k) = absurd (none-some a (sym k ∙ (ap (λ (x : ℕ). alias_in (label_row ls x).place) (sym e) ∙ h)))
+  one_length e (on a h p) (on b k q) = ap suc (one_length (same_Some a b (sym h ∙ (ap (λ (x : ℕ). alias_in (label_row ls x).place) e ∙ k))) p q)
 
   one_end : {l m k n : ℕ} → l ≡ k → Leads ls l m → Leads ls k n → m ≡ n
   one_end e (here h) (here k) = e
-  one_end e (here h) (on a k q) = absurd (none-some a (sym h ∙ (ap (λ (x : ℕ). (label_row ls x).alias) e ∙ k)))
-  one_end e (on a h p) (here k) = absurd (none-some a (sym k ∙ (ap (λ (x : ℕ). (label_row ls x).alias) (sym e) ∙ h)))
-  one_end e (on a h p) (on b k q) = one_end (same_Some a b (sym h ∙ (ap (λ (x : ℕ). (label_row ls x).alias) e ∙ k))) p q
+  one_end e (here h) (on a k q) = absurd (none-some a (sym h ∙ (ap (λ (x : ℕ). alias_in (label_row ls x).place) e ∙ k)))
+  one_end e (on a h p) (here k) = absurd (none-some a (sym k ∙ (ap (λ (x : ℕ). alias_in (label_row ls x).place) (sym e) ∙ h)))
+  one_end e (on a h p) (on b k q) = one_end (same_Some a b (sym h ∙ (ap (λ (x : ℕ). alias_in (label_row ls x).place) e ∙ k))) p q
 
   -- where a way ends is no alias
-  pub end_unaliased : {l m : ℕ} → Leads ls l m → (label_row ls m).alias ≡ None
+  pub end_unaliased : {l m : ℕ} → Leads ls l m → alias_in (label_row ls m).place ≡ None
   end_unaliased (here h) = h
   end_unaliased (on a h p) = end_unaliased p
 
@@ -64,9 +64,9 @@ module _ (ls : List Label) where
   stays_within : Within ls → (n l : ℕ) → l < length ls → root_within n ls l < length ls
   stays_within w zero l h = h
   stays_within w (suc n) l h = ⊎_elim
-      (λ (e : (label_row ls l).alias ≡ None). rw (stays (suc n) l e) h)
-      (λ (r : (a : ℕ) × ((label_row ls l).alias ≡ Some a)). rw (goes_on n l r.0 r.1) (stays_within w n r.0 (w l r.0 r.1)))
-      (cases_place (label_row ls l).alias)
+      (λ (e : alias_in (label_row ls l).place ≡ None). rw (stays (suc n) l e) h)
+      (λ (r : (a : ℕ) × (alias_in (label_row ls l).place ≡ Some a)). rw (goes_on n l r.0 r.1) (stays_within w n r.0 (w l r.0 r.1)))
+      (cases_place (alias_in (label_row ls l).place))
 
   short : {l m : ℕ} → Within ls → l < length ls → (p : Leads ls l m) → steps p < length ls
   short {l} w h p =

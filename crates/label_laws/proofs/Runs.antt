@@ -1,11 +1,13 @@
 -- The laws of every list of calls.
-use Rattle.std.proofs.Common.{◌≡◌, ℕ, ◌<◌, ◌≤◌, false, ◌≢◌, ◌⊎◌, List, None, [], ◌∷◌, ◌++◌, length, sym, refl, ap, subst, inl, inr, arith}
+use Rattle.std.proofs.Common.{◌≡◌, ℕ, ◌<◌, ◌≤◌, false, ◌⊎◌, List, [], ◌∷◌, ◌++◌, length, sym, refl, ap, ◌∙◌, subst, inl, inr, arith}
 use Rattle.std.proofs.lemmas.Bool.{cases_lt}
 use Rattle.std.proofs.lemmas.List.{get_or_past}
+use Rattle.std.proofs.lemmas.Option.{none-some}
 use Rattle.isa.specs.Isa.{Isa}
 use Rattle.model.specs.declared.rows.Label.{Label}
+use Rattle.model.specs.declared.rows.Place.TheVariants.{At}
 use Rattle.model.specs.State.{empty}
-use Rattle.model.specs.Labels.{unbound, label_row}
+use Rattle.model.specs.Labels.{offset_in, unbound, label_row}
 use Rattle.model.specs.Steps.{Call}
 use Rattle.model.specs.Runs.{Run, begun, next, run_from, run}
 use Rattle.model.proofs.Cases.{either}
@@ -51,9 +53,9 @@ run-later i cs ds = subst (λ (r : Run). Later (labels_after i cs) r.state.label
 pub aliases_end : (i : Isa) (cs : List Call) (l : ℕ) → l < length (labels_after i cs) → Ends (labels_after i cs) l
 aliases_end i cs l h = let o = (run_sound i cs).labels in ends (labels_after i cs) (orderly_within (labels_after i cs) o) h (o.ends l).1
 
-pub never_forward : (i : Isa) (cs ds : List Call) (l : ℕ) → (label_row (labels_after i cs) l).offset ≢ None → NeverForward (label_row (labels_after i cs) l) (label_row (labels_after i (cs ++ ds)) l)
-never_forward i cs ds l h = by (cases_lt l (length (labels_after i cs)))
+pub never_forward : (i : Isa) (cs ds : List Call) (l from : ℕ) → (label_row (labels_after i cs) l).place ≡ At from → NeverForward (label_row (labels_after i cs) l) (label_row (labels_after i (cs ++ ds)) l)
+never_forward i cs ds l from h = by (cases_lt l (length (labels_after i cs)))
   where
     by : (l < length (labels_after i cs)) ⊎ (length (labels_after i cs) ≤ l) → NeverForward (label_row (labels_after i cs) l) (label_row (labels_after i (cs ++ ds)) l)
-    by (inl less) = ((run-later i cs ds).moves l less).falls h
-    by (inr past) = absurd (h (ap (λ (x : Label). x.offset) (get_or_past (labels_after i cs) l (unbound false) past)))
+    by (inl less) = ((run-later i cs ds).moves l less).falls from h
+    by (inr past) = absurd (none-some from (ap (λ (x : Label). offset_in x.place) (sym (get_or_past (labels_after i cs) l (unbound false) past)) ∙ ap offset_in h))

@@ -1,14 +1,15 @@
 -- Simplifying keeps the tables sound, and no label goes forward.
-use Rattle.std.proofs.Common.{◌≡◌, ℕ, zero, suc, ◌-◌, ◌<◌, ◌≤◌, Bool, true, false, ◌&&◌, ◌||◌, eqb, ltb, ◌≢◌, ◌⊎◌, List, [], map, length, get_or, Option, unwrap_or, refl, ap, ◌∙◌, inl, inr, arith}
+use Rattle.std.proofs.Common.{◌≡◌, ℕ, zero, suc, ◌-◌, ◌<◌, ◌≤◌, Bool, true, false, ◌&&◌, ◌||◌, eqb, ltb, ◌≢◌, ◌⊎◌, List, [], map, length, get_or, unwrap_or, refl, ap, ◌∙◌, inl, inr, arith}
 use lib.ListN.{length-map}
 use Rattle.std.specs.List.{AllByRecursion}
 use Rattle.std.proofs.lemmas.Bool.{cases_lt, cond_both, and_parts, or_parts, ltb-true, eqb-true, eqb-false}
 use Rattle.std.proofs.lemmas.List.{get_or_past}
 use Rattle.std.proofs.ByRecursion.{All-get_or, All-take, All-set}
 use Rattle.model.specs.declared.rows.Label.{Label}
+use Rattle.model.specs.declared.rows.Place.{Place}
 use Rattle.model.specs.declared.rows.Branch.{Branch}
 use Rattle.model.specs.State.{State, unknown, cur_offset, with_branches}
-use Rattle.model.specs.Labels.{moved, aliased}
+use Rattle.model.specs.Labels.{offset_in, moved, aliased}
 use Rattle.model.specs.Simplify.{is_conditional, no_branch, last_branch, target_of, has_labels, cut, redirect, turned, turn, Round, stop, applied, rule_1, rule_2, rule_3, rule_4, takes_branch, round, rounds, all_rounds, forgotten, simplified}
 use Rattle.model.proofs.Cases.{either}
 use Rattle.label_laws.specs.Sound.{BranchAmong, UseAmong, Waits, Sound, Goes}
@@ -59,7 +60,7 @@ cut_goes s t k =
 redirect_goes : (s : State) → Taken s → target_of s (last_branch s) ≢ (last_branch s).start → Sound s → Goes s (redirect s)
 redirect_goes s t elsewhere k =
     let b = last_among s t k in
-    let m : Keeps s.labels (redirect s).labels = aliased_keeps s.labels (last_branch s).start (last_branch s).target b.target k.labels (λ e. elsewhere (ap (λ (o : Option ℕ). unwrap_or o unknown) e)) in
+    let m : Keeps s.labels (redirect s).labels = aliased_keeps s.labels (last_branch s).start (last_branch s).target b.target k.labels (λ e. elsewhere (ap (λ (p : Place). unwrap_or (offset_in p) unknown) e)) in
     record {
       sound = tables_kept s.labels (redirect s).labels s.branches s.fresh s.held m s.deferred s.constants s.requested (waits_aliased (last_branch s).start (last_branch s).target s.labels) k;
       later = m.later;

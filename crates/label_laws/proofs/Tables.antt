@@ -6,6 +6,7 @@ use Rattle.std.proofs.lemmas.List.{length_push, get_or_push, get_or-set_same, ge
 use Rattle.std.proofs.lemmas.Option.{same_Some}
 use Rattle.std.proofs.ByRecursion.{All-push, All-weaker}
 use Rattle.model.specs.declared.rows.Label.{Label}
+use Rattle.model.specs.declared.rows.Place.TheVariants.{Nowhere}
 use Rattle.model.specs.declared.rows.Fixup.{Fixup}
 use Rattle.model.specs.declared.rows.Branch.{Branch}
 use Rattle.model.specs.declared.rows.DeferredTrap.{DeferredTrap}
@@ -70,7 +71,7 @@ awaited_bound ls None at (o ∷ ps) p w a = absurd p
 awaited_bound ls (Some l) at (o ∷ ps) p w a = (still_awaited ls l at o w.0 a.0, awaited_bound ls (Some l) at ps p w.1 a.1)
 
 waiting_keeps : (ls : List Label) (l at : ℕ) → Orderly ls → Waits ls l → Keeps ls (bound_at ls l at)
-waiting_keeps ls l at o w = bound_keeps ls l at (ap (λ (x : Label). x.offset) w.row) (ap (λ (x : Label). x.alias) w.row) o
+waiting_keeps ls l at o w = bound_keeps ls l at (ap (λ (x : Label). x.place) w.row) o
 
 awaited_keeps : (ls : List Label) (l : Option ℕ) (at : ℕ) → Orderly ls → Awaited ls l → Keeps ls (bound_if ls l at)
 awaited_keeps ls None at o a = absurd a
@@ -159,7 +160,7 @@ module _ (ls : List Label) (bs : List Branch) (fs hs : List Fixup) (ds : List De
       t
 
   -- a label that was free is bound
-  pub bound : (l at : ℕ) → (label_row ls l).offset ≡ None → (label_row ls l).alias ≡ None → (label_row ls l).reserved ≡ false → Tables ls bs fs hs ds cs ns → Tables (bound_at ls l at) bs fs hs ds cs ns
-  bound l at nowhere plain free t =
+  pub bound : (l at : ℕ) → (label_row ls l).place ≡ Nowhere → (label_row ls l).reserved ≡ false → Tables ls bs fs hs ds cs ns → Tables (bound_at ls l at) bs fs hs ds cs ns
+  bound l at nowhere free t =
       let other : (p : ℕ) → Waits ls p → p ≢ l = λ p w e. true≢false (sym (ap (λ (x : Label). x.reserved) w.row) ∙ ap (λ (q : ℕ). (label_row ls q).reserved) e ∙ free) in
-      tables_kept ls (bound_at ls l at) bs fs hs (bound_keeps ls l at nowhere plain t.labels) ds cs ns (λ p w. still_waits ls l at p w (other p w)) t
+      tables_kept ls (bound_at ls l at) bs fs hs (bound_keeps ls l at nowhere t.labels) ds cs ns (λ p w. still_waits ls l at p w (other p w)) t

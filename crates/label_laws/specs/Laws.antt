@@ -1,7 +1,8 @@
 -- What holds of labels after every list of calls, over any instruction set.
-use Rattle.std.specs.Prelude.{ℕ, ◌<◌, ◌≢◌, List, ◌++◌, length, None}
+use Rattle.std.specs.Prelude.{◌≡◌, ℕ, ◌<◌, List, ◌++◌, length}
 use Rattle.isa.specs.Isa.{Isa}
 use Rattle.model.specs.declared.rows.Label.{Label}
+use Rattle.model.specs.declared.rows.Place.TheVariants.{At}
 use Rattle.model.specs.Labels.{label_row}
 use Rattle.model.specs.Steps.{Call}
 use Rattle.model.specs.Runs.{run}
@@ -19,4 +20,4 @@ AliasesEnd = (i : Isa) (calls : List Call) (l : ℕ) → l < length (labels_afte
 -- A label that stands somewhere never moves forward, by one call more or by any number of them.
 abbrev pub LabelsNeverMoveForward : Type 0
 LabelsNeverMoveForward =
-    (i : Isa) (calls more : List Call) (l : ℕ) → (label_row (labels_after i calls) l).offset ≢ None → NeverForward (label_row (labels_after i calls) l) (label_row (labels_after i (calls ++ more)) l)
+    (i : Isa) (calls more : List Call) (l from : ℕ) → (label_row (labels_after i calls) l).place ≡ At from → NeverForward (label_row (labels_after i calls) l) (label_row (labels_after i (calls ++ more)) l)

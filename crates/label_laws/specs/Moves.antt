@@ -1,20 +1,20 @@
 -- How labels may move.
-use Rattle.std.specs.Prelude.{◌≡◌, ℕ, ◌<◌, ◌≤◌, ◌≢◌, ◌⊎◌, List, length, Some, None}
+use Rattle.std.specs.Prelude.{◌≡◌, ℕ, ◌<◌, ◌≤◌, ◌⊎◌, List, length}
 use Rattle.model.specs.declared.rows.Label.{Label}
+use Rattle.model.specs.declared.rows.Place.TheVariants.{At, AliasOf}
 use Rattle.model.specs.Labels.{label_row}
 
--- it has become an alias, and stands nowhere
+-- it has become an alias
 pub record IsAlias (after : Label) : Type 0 where
-  pub aliased : after.alias ≢ None
-  pub nowhere : after.offset ≡ None
+  pub of_label : ℕ
+  pub aliased : after.place ≡ AliasOf of_label
 
 -- it stands where it stood, or at a lower offset
 pub record StandsNoLater (before after : Label) : Type 0 where
   pub from : ℕ
   pub to : ℕ
-  pub unaliased : after.alias ≡ None
-  pub stood : before.offset ≡ Some from
-  pub stands : after.offset ≡ Some to
+  pub stood : before.place ≡ At from
+  pub stands : after.place ≡ At to
   pub no_later : to ≤ from
 
 -- what may become of a label that stands somewhere
@@ -23,8 +23,8 @@ NeverForward before after = IsAlias after ⊎ StandsNoLater before after
 
 -- what may become of any label: an alias never changes
 pub record Moves (before after : Label) : Type 0 where
-  pub stays : before.alias ≢ None → after ≡ before
-  pub falls : before.offset ≢ None → NeverForward before after
+  pub stays : (a : ℕ) → before.place ≡ AliasOf a → after ≡ before
+  pub falls : (from : ℕ) → before.place ≡ At from → NeverForward before after
   pub reserved : after.reserved ≡ before.reserved
 
 -- a table of labels and a later one

@@ -2,26 +2,26 @@
 use Rattle.std.specs.Prelude.{◌≡◌, ℕ, ◌<◌, ◌≤◌, true, ◌≢◌, ◌⊎◌, List, [], ◌∷◌, ◌++◌, map, length, Some, None, Option, IsSomeAnd, slice_index_or}
 use Rattle.std.specs.List.{AllByRecursion}
 use Rattle.model.specs.declared.rows.Label.{Label}
+use Rattle.model.specs.declared.rows.Place.TheVariants.{AliasOf}
 use Rattle.model.specs.declared.rows.Fixup.{Fixup}
 use Rattle.model.specs.declared.rows.Branch.{Branch}
 use Rattle.model.specs.declared.rows.DeferredTrap.{DeferredTrap}
 use Rattle.model.specs.declared.rows.Constant.{Constant}
 use Rattle.model.specs.Capacities.{max_code, max_labels}
 use Rattle.model.specs.State.{State}
-use Rattle.model.specs.Labels.{unbound, label_row}
+use Rattle.model.specs.Labels.{alias_in, unbound, label_row}
 use Rattle.label_laws.specs.Leads.{Leads}
 use Rattle.label_laws.specs.Moves.{Later}
 
--- an alias of one of n labels, which stands nowhere
+-- an alias of one of n labels
 pub record AliasAmong (n : ℕ) (x : Label) : Type 0 where
   pub to : ℕ
-  pub alias : x.alias ≡ Some to
+  pub alias : x.place ≡ AliasOf to
   pub among : to < n
-  pub nowhere : x.offset ≡ None
 
 -- a row among n labels: no alias, or an alias of one of them
 abbrev pub Row : ℕ → Label → Type 0
-Row n x = (x.alias ≡ None) ⊎ AliasAmong n x
+Row n x = (alias_in x.place ≡ None) ⊎ AliasAmong n x
 
 -- a table of labels, of which each leads to one that is no alias
 pub record Orderly (ls : List Label) : Type 0 where
@@ -39,7 +39,7 @@ pub record BranchAmong (n : ℕ) (b : Branch) : Type 0 where
   pub room : b.end ≤ max_code
   pub target : b.target < n
 
--- a label that an island will bind: it is reserved, stands nowhere, and is no alias
+-- a label that an island will bind: it is reserved and unbound
 pub record Waits (ls : List Label) (l : ℕ) : Type 0 where
   pub exists : l < length ls
   pub row : label_row ls l ≡ unbound true

@@ -1,5 +1,5 @@
 -- Simplifying ends: each rule that applies takes a branch away, or makes a label that stands somewhere an alias.
-use Rattle.std.proofs.Common.{◌≡◌, ℕ, zero, suc, ◌+◌, ◌-◌, ◌<◌, ◌≤◌, Bool, true, false, cond, ◌&&◌, eqb, ltb, List, [], ◌∷◌, map, length, is_some, Some, None, Option, Result, refl, ap, ◌∙◌, arith, length-set, length-take}
+use Rattle.std.proofs.Common.{◌≡◌, ℕ, zero, suc, ◌+◌, ◌-◌, ◌<◌, ◌≤◌, Bool, true, false, cond, ◌&&◌, eqb, ltb, List, [], ◌∷◌, map, length, is_some, Result, refl, ap, ◌∙◌, arith, length-set, length-take}
 use Rattle.std.proofs.ByRecursion.{All-get_or}
 use Rattle.std.proofs.lemmas.List.Sums.{sum_by-cons}
 use Rattle.std.proofs.lemmas.Bool.{ltb-true, false≢true, cond-true, cond-false, cond_both}
@@ -7,9 +7,11 @@ use Rattle.isa.specs.Isa.{Isa}
 use Rattle.model.specs.declared.refusals.Refusal.{Refusal}
 use Rattle.model.specs.declared.rows.Branch.{Branch}
 use Rattle.model.specs.declared.rows.Label.{Label}
+use Rattle.model.specs.declared.rows.Place.{Place}
+use Rattle.model.specs.declared.rows.Place.TheVariants.{Nowhere, At, AliasOf}
 use Rattle.model.specs.Capacities.{max_code}
 use Rattle.model.specs.State.{State, cur_offset, is_open, with_branches}
-use Rattle.model.specs.Labels.{is_at, moved, aliased, standing, bound_count}
+use Rattle.model.specs.Labels.{offset_in, is_at, moved, aliased, standing, bound_count}
 use Rattle.model.specs.Simplify.{no_branch, last_branch, has_labels, cut, redirect, turn, round, rounds, all_rounds, forgotten, simplified}
 use Rattle.model.specs.Calls.{optimize_branches}
 use Rattle.model.specs.Steps.{OptimizeBranches, step}
@@ -21,26 +23,28 @@ use Rattle.model.proofs.Steady.{Steady, last_stands, rules_keep_steady}
 abbrev one : Bool → ℕ
 one b = cond b 1 0
 
-moved_one : (from to : ℕ) (o : Option ℕ) → one (is_some (cond (is_at from o) (Some to) o)) ≤ one (is_some o)
-moved_one from to None = omega arith
-moved_one from to (Some n) = either (λ (r : Option ℕ). one (is_some r) ≤ 1) (eqb n from) _ _ (omega arith) (omega arith)
+moved_one : (from to : ℕ) (p : Place) → one (is_some (offset_in (cond (is_at from p) (At to) p))) ≤ one (is_some (offset_in p))
+moved_one from to Nowhere = omega arith
+moved_one from to (At n) = either (λ (r : Place). one (is_some (offset_in r)) ≤ 1) (eqb n from) _ _ (omega arith) (omega arith)
+moved_one from to (AliasOf l) = omega arith
 
-aliased_one : (at : ℕ) (o : Option ℕ) → one (is_some (cond (is_at at o) None o)) + one (is_at at o) ≤ one (is_some o)
-aliased_one at None = omega arith
-aliased_one at (Some n) = elim (eqb n at) as (λ b. one (is_some (cond b None (Some n))) + one b ≤ 1) [ true ↦ omega arith | false ↦ omega arith ]
+aliased_one : (at target : ℕ) (p : Place) → one (is_some (offset_in (cond (is_at at p) (AliasOf target) p))) + one (is_at at p) ≤ one (is_some (offset_in p))
+aliased_one at target Nowhere = omega arith
+aliased_one at target (At n) = elim (eqb n at) as (λ b. one (is_some (offset_in (cond b (AliasOf target) (At n)))) + one b ≤ 1) [ true ↦ omega arith | false ↦ omega arith ]
+aliased_one at target (AliasOf l) = omega arith
 
 pub bound_moved : (from to : ℕ) (xs : List Label) → bound_count (map (moved from to) xs) ≤ bound_count xs
 bound_moved from to [] = omega arith
 bound_moved from to (x ∷ xs) =
-    let count : Label → ℕ = λ y. one (is_some y.offset) in
-    omega (arith, bound_moved from to xs, moved_one from to x.offset, sum_by-cons count x xs, sum_by-cons count (moved from to x) (map (moved from to) xs))
+    let count : Label → ℕ = λ y. one (is_some (offset_in y.place)) in
+    omega (arith, bound_moved from to xs, moved_one from to x.place, sum_by-cons count x xs, sum_by-cons count (moved from to x) (map (moved from to) xs))
 
 pub bound_aliased : (at target : ℕ) (xs : List Label) → bound_count (map (aliased at target) xs) + standing at xs ≤ bound_count xs
 bound_aliased at target [] = omega arith
 bound_aliased at target (x ∷ xs) =
-    let count : Label → ℕ = λ y. one (is_some y.offset) in
-    let here : Label → ℕ = λ y. one (is_at at y.offset) in
-    omega (arith, bound_aliased at target xs, aliased_one at x.offset, sum_by-cons count x xs, sum_by-cons count (aliased at target x) (map (aliased at target) xs), sum_by-cons here x xs)
+    let count : Label → ℕ = λ y. one (is_some (offset_in y.place)) in
+    let here : Label → ℕ = λ y. one (is_at at y.place) in
+    omega (arith, bound_aliased at target xs, aliased_one at target x.place, sum_by-cons count x xs, sum_by-cons count (aliased at target x) (map (aliased at target) xs), sum_by-cons here x xs)
 
 -- the standing branches and the labels that stand somewhere, together
 abbrev pub rank : State → ℕ

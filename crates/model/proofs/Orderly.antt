@@ -9,6 +9,8 @@ use Rattle.std.proofs.lemmas.Bool.{and_parts, leb-true, cases_lt, cases_eq, cond
 use Rattle.isa.specs.Isa.{Isa, bytes_at, patched_at}
 use Rattle.isa.specs.Laws.{OfKind, VeneerBounds, Lawful}
 use Rattle.model.specs.declared.rows.Label.{Label}
+use Rattle.model.specs.declared.rows.Place.{Place}
+use Rattle.model.specs.declared.rows.Place.TheVariants.{At, AliasOf}
 use Rattle.model.specs.declared.rows.Fixup.{Fixup}
 use Rattle.model.specs.declared.rows.Branch.{Branch}
 use Rattle.model.specs.declared.rows.Constant.{Constant}
@@ -17,7 +19,7 @@ use Rattle.model.specs.declared.rows.PlacedConstant.{PlacedConstant}
 use Rattle.model.specs.Capacities.{max_code, max_branches, max_constants, max_requests, max_labels}
 use Rattle.model.specs.State.{State, empty, cur_offset, with_code, with_fresh, with_held, with_branches, with_requested, with_constants, with_deferred}
 use Rattle.model.specs.Code.{zeros, is_alignment, aligned, padded_to, overwritten}
-use Rattle.model.specs.Labels.{unbound, label_row, is_at, root, bound_at, bound_if, moved, aliased}
+use Rattle.model.specs.Labels.{unbound, label_row, offset_in, is_at, root, bound_at, bound_if, moved, aliased}
 use Rattle.model.specs.Fixups.{fixup_at, insert_held}
 use Rattle.model.specs.Constants.{is_constant, constant_row, label_constant}
 use Rattle.model.specs.Simplify.{no_branch, no_fixup, last_branch, cut, redirect, relabelled, turned, bytes_of, turn}
@@ -44,7 +46,7 @@ LabelWhole i None = Unit {0}
 LabelWhole i (Some at) = at % i.align ≡ 0
 
 abbrev pub LabelsWhole : Isa → List Label → Type 0
-LabelsWhole i ls = AllByRecursion (λ (x : Label). LabelWhole i x.offset) ls
+LabelsWhole i ls = AllByRecursion (λ (x : Label). LabelWhole i (offset_in x.place)) ls
 
 -- a constant's alignment is a multiple of the set's
 pub record ConstantWhole (i : Isa) (c : Constant) : Type 0 where
@@ -79,28 +81,28 @@ pub record Orderly (i : Isa) (s : State) : Type 0 where
 
 -- a new label
 unbound_whole : (i : Isa) (ls : List Label) (reserved : Bool) → LabelsWhole i ls → LabelsWhole i (ls ++ unbound reserved ∷ [])
-unbound_whole i ls reserved a = All-push (λ (x : Label). LabelWhole i x.offset) ls (unbound reserved) a tt
+unbound_whole i ls reserved a = All-push (λ (x : Label). LabelWhole i (offset_in x.place)) ls (unbound reserved) a tt
 
 -- a label that is bound
 bound_whole : (i : Isa) (ls : List Label) (l at : ℕ) → at % i.align ≡ 0 → LabelsWhole i ls → LabelsWhole i (bound_at ls l at)
-bound_whole i ls l at h a = All-set (λ (x : Label). LabelWhole i x.offset) ls l _ h a
+bound_whole i ls l at h a = All-set (λ (x : Label). LabelWhole i (offset_in x.place)) ls l _ h a
 
 bound_if_whole : (i : Isa) (ls : List Label) (o : Option ℕ) (at : ℕ) → at % i.align ≡ 0 → LabelsWhole i ls → LabelsWhole i (bound_if ls o at)
 bound_if_whole i ls None at h a = a
 bound_if_whole i ls (Some l) at h a = bound_whole i ls l at h a
 
 -- what a label resolves to
-pub resolved_whole : (i : Isa) (ls : List Label) (n : ℕ) → LabelsWhole i ls → LabelWhole i (label_row ls n).offset
+pub resolved_whole : (i : Isa) (ls : List Label) (n : ℕ) → LabelsWhole i ls → LabelWhole i (offset_in (label_row ls n).place)
 resolved_whole i ls n a = ⊎_elim
-    (λ (l : n < length ls). All-get_or (λ (x : Label). LabelWhole i x.offset) ls n (unbound false) l a)
+    (λ (l : n < length ls). All-get_or (λ (x : Label). LabelWhole i (offset_in x.place)) ls n (unbound false) l a)
     (λ (l : length ls ≤ n). rw (get_or_past ls n (unbound false) l) tt)
     (cases_lt n (length ls))
 
 moved_whole : (i : Isa) (from to : ℕ) → to % i.align ≡ 0 → (ls : List Label) → LabelsWhole i ls → LabelsWhole i (map (moved from to) ls)
-moved_whole i from to h ls a = All-map (λ (x : Label). LabelWhole i x.offset) (moved from to) ls (All-weaker _ _ (λ x p. cond_both (is_at from x.offset) (Some to) x.offset (LabelWhole i) (λ _. h) (λ _. p)) ls a)
+moved_whole i from to h ls a = All-map (λ (x : Label). LabelWhole i (offset_in x.place)) (moved from to) ls (All-weaker _ _ (λ x p. cond_both (is_at from x.place) (At to) x.place (λ (q : Place). LabelWhole i (offset_in q)) (λ _. h) (λ _. p)) ls a)
 
 aliased_whole : (i : Isa) (from target : ℕ) (ls : List Label) → LabelsWhole i ls → LabelsWhole i (map (aliased from target) ls)
-aliased_whole i from target ls a = All-map (λ (x : Label). LabelWhole i x.offset) (aliased from target) ls (All-weaker _ _ (λ x p. cond_both (is_at from x.offset) None x.offset (LabelWhole i) (λ _. tt) (λ _. p)) ls a)
+aliased_whole i from target ls a = All-map (λ (x : Label). LabelWhole i (offset_in x.place)) (aliased from target) ls (All-weaker _ _ (λ x p. cond_both (is_at from x.place) (AliasOf target) x.place (λ (q : Place). LabelWhole i (offset_in q)) (λ _. tt) (λ _. p)) ls a)
 
 -- the same uses serve as long as they keep their place and kind
 record Alike (f g : Fixup) : Type 0 where

@@ -1,5 +1,6 @@
 -- Finished code: regions are filled, and records and labels are found by offset.
 use Rattle.std.specs.Prelude.{◌≡◌, ℕ, ◌<◌, cond, not, List, [], ◌∷◌, length, Some, None, Ok, Err, Option, Result, ◌==◌, nat_le, slice_index_or}
+use Rattle.model.specs.declared.rows.Place.TheVariants.{At}
 use Rattle.model.specs.declared.rows.Region.{Region}
 use Rattle.model.specs.declared.refusals.Refusal.{Refusal}
 use Rattle.model.specs.declared.refusals.Refusal.TheVariants.{NoSuchRegion, BadBytes}
@@ -24,11 +25,10 @@ abbrev pub first_at : {R : Type 0} → (R → ℕ) → List R → ℕ → Option
 first_at offset [] at = None
 first_at offset (r ∷ rs) at = cond (offset r == at) (Some r) (first_at offset rs at)
 
--- an unaliased label that stands at an offset
+-- a label that stands at an offset
 pub record StandsAt (s : State) (at l : ℕ) : Type 0 where
   pub exists : l < length s.labels
-  pub unaliased : (label_row s.labels l).alias ≡ None
-  pub here : (label_row s.labels l).offset ≡ Some at
+  pub here : (label_row s.labels l).place ≡ At at
 
 -- What a search for a label at an offset may answer: one that stands there, or none where none does.
 abbrev pub LabelAt : State → ℕ → Option ℕ → Type 0

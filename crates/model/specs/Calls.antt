@@ -1,6 +1,6 @@
 -- The calls that build code, save islands and finishing: what each answers, and the tables after it. The refusals of a
 -- call stand in the order of checking, and a refused call changes nothing.
-use Rattle.std.specs.Prelude.{ℕ, ◌+◌, ◌-◌, ◌%◌, Bool, true, false, cond, not, ◌&&◌, ◌||◌, List, [], ◌∷◌, ◌++◌, length, ℤ, pos, negsuc, is_some, Some, None, Ok, Err, Option, Result, ◌==◌, nat_le, nat_lt}
+use Rattle.std.specs.Prelude.{ℕ, ◌+◌, ◌-◌, ◌%◌, Bool, true, false, cond, not, ◌&&◌, ◌||◌, List, [], ◌∷◌, ◌++◌, length, ℤ, pos, negsuc, Some, None, Ok, Err, Option, Result, ◌==◌, nat_le, nat_lt}
 use Rattle.std.specs.Option.{option_map}
 use Rattle.isa.specs.declared.jumps.Role.{Role}
 use Rattle.isa.specs.declared.jumps.Role.TheVariants.{Unconditional, Conditional}
@@ -12,7 +12,7 @@ use Rattle.model.specs.declared.refusals.Refusal.TheVariants.{BrokenOff, RegionO
 use Rattle.model.specs.State.{State, cur_offset, is_open, with_code, with_labels, with_branches, with_deferred, with_traps, with_constants, with_requested, with_regions, with_opened}
 use Rattle.model.specs.Code.{zeros, padding, is_alignment}
 use Rattle.model.specs.Full.{no_room, labels_full, fixups_full, branches_full, traps_full, constants_full, requests_full, regions_full}
-use Rattle.model.specs.Labels.{unbound, label_row, bound_at}
+use Rattle.model.specs.Labels.{unbound, label_row, is_nowhere, bound_at}
 use Rattle.model.specs.Fixups.{fixup_at, add_fixup}
 use Rattle.model.specs.Constants.{is_constant, constant_row, label_constant}
 use Rattle.model.specs.Simplify.{simplified}
@@ -39,7 +39,7 @@ get_label s = cond s.broken (Err BrokenOff, s) (new_label s false)
 
 -- a label that was bound, has become an alias, or is reserved
 abbrev pub is_taken : State → ℕ → Bool
-is_taken s l = is_some (label_row s.labels l).offset || is_some (label_row s.labels l).alias || (label_row s.labels l).reserved
+is_taken s l = not (is_nowhere (label_row s.labels l).place) || (label_row s.labels l).reserved
 
 -- a label bound at the current offset
 abbrev pub bind : State → ℕ → State

@@ -9,13 +9,21 @@ pub const UNKNOWN: u32 = 4294967295;
 /// No deadline counts as later, and no threshold is higher.
 pub const LATEST: u64 = 4294967295;
 
-/// A label: it stands at an offset, or is an alias of another label and stands nowhere itself, or is unbound.
+/// Where a label is.
+#[derive(Clone, Copy, PartialEq, Eq, Debug)]
+pub enum Place {
+    /// it is unbound
+    Nowhere,
+    /// it stands at an offset
+    At(u32),
+    /// it is an alias of another label
+    AliasOf(u32),
+}
+
+/// A label.
 #[derive(Clone, Copy)]
 pub struct Label {
-    /// where it stands
-    pub offset: Option<u32>,
-    /// the label that it is an alias of
-    pub alias: Option<u32>,
+    pub place: Place,
     /// it is the label of a trap or a constant, which an island binds
     pub reserved: bool,
 }
@@ -26,8 +34,7 @@ impl Label {
         ensures { result ≡ unbound reserved }
     {
         Label {
-            offset: None,
-            alias: None,
+            place: Place::Nowhere,
             reserved,
         }
     }

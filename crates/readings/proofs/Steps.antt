@@ -1,15 +1,14 @@
 -- A step in the code, by what stands at its offset.
 use Rattle.std.proofs.Common.{◌≡◌, ℕ, zero, suc, ◌+◌, ◌-◌, ◌<◌, Bool, true, false, cond, ◌||◌, eqb, ltb, List, [], ◌∷◌, get_or, ℤ, pos, negsuc, Some, None, Option, sym, refl, ap, ◌∙◌, true≢false, arith, ltb-false, ltb-true, lt-ltb, eq-eqb, ne_eqb}
 use mathlib.Core.Bool.{false≢true}
+use Rattle.std.proofs.lemmas.Bool.{eqb-true}
 use lib.IntN.{sub_ℕ}
 use Rattle.isa.specs.declared.jumps.Jump.{Jump}
 use Rattle.isa.specs.declared.jumps.Jump.TheVariants.{Branch, Veneer}
 use Rattle.isa.specs.Laws.{Leads}
-use Rattle.model.specs.Labels.{is_at}
-use Rattle.model.proofs.Labels.{eq-is_at, is_at-true}
 use Rattle.readings.specs.Walk.{Step, nowhere, on}
 use Rattle.readings.specs.Draft.{Truth, jumps, Item, piece, use_of, label, branch, gap, among, pieces_among, Destination}
-use Rattle.readings.specs.Code.{by, follow, piece_at, kept_at}
+use Rattle.readings.specs.Code.{by, follow, piece_at, is_here, kept_at}
 
 -- the displacement from q to n leads to n
 pub by_target : (n q : ℕ) → by q (sub_ℕ n q) ≡ on n
@@ -91,25 +90,29 @@ later-among l m K h = go (eqb l m) refl
 not_first : (l m : ℕ) (K : List ℕ) → (l ≡ m → ⊥) → among l (m ∷ K) ≡ true → among l K ≡ true
 not_first l m K other h = sym (ap (λ (b : Bool). b || among l K) (ne_eqb l m other)) ∙ h
 
+is_here-true : (q : ℕ) (o : Option ℕ) → is_here q o ≡ true → o ≡ Some q
+is_here-true q None e = absurd (false≢true e)
+is_here-true q (Some n) e = ap Some (eqb-true n q e)
+
 -- the only label of the list that has the place q is found there
 pub kept_there : (K : List ℕ) (place : ℕ → Option ℕ) (l q : ℕ) → among l K ≡ true → place l ≡ Some q
     → ((m : ℕ) → among m K ≡ true → place m ≡ Some q → m ≡ l) → kept_at K place q ≡ Some l
 kept_there [] place l q h p only = absurd (false≢true h)
 kept_there (m ∷ K) place l q h p only =
-    go (λ other. kept_there K place l q (not_first l m K other h) p (λ i a. only i (later-among i m K a))) (is_at q (place m)) refl
+    go (λ other. kept_there K place l q (not_first l m K other h) p (λ i a. only i (later-among i m K a))) (is_here q (place m)) refl
   where
-    here : is_at q (place l) ≡ true
-    here = eq-is_at q (place l) p
+    here : is_here q (place l) ≡ true
+    here = rw p (eq-eqb q q refl)
 
-    go : ((l ≡ m → ⊥) → kept_at K place q ≡ Some l) → (b : Bool) → is_at q (place m) ≡ b → kept_at (m ∷ K) place q ≡ Some l
-    go rest true e = ap (λ (b : Bool). cond b (Some m) (kept_at K place q)) e ∙ ap Some (only m (first_among m K) (is_at-true q (place m) e))
+    go : ((l ≡ m → ⊥) → kept_at K place q ≡ Some l) → (b : Bool) → is_here q (place m) ≡ b → kept_at (m ∷ K) place q ≡ Some l
+    go rest true e = ap (λ (b : Bool). cond b (Some m) (kept_at K place q)) e ∙ ap Some (only m (first_among m K) (is_here-true q (place m) e))
     go rest false e =
-        ap (λ (b : Bool). cond b (Some m) (kept_at K place q)) e ∙ rest (λ z. true≢false (sym here ∙ ap (λ i. is_at q (place i)) z ∙ e))
+        ap (λ (b : Bool). cond b (Some m) (kept_at K place q)) e ∙ rest (λ z. true≢false (sym here ∙ ap (λ i. is_here q (place i)) z ∙ e))
 
 pub no_kept_there : (K : List ℕ) (place : ℕ → Option ℕ) (q : ℕ) → ((m : ℕ) → among m K ≡ true → place m ≡ Some q → ⊥) → kept_at K place q ≡ None
 no_kept_there [] place q none = refl
-no_kept_there (m ∷ K) place q none = go (no_kept_there K place q (λ i a. none i (later-among i m K a))) (is_at q (place m)) refl
+no_kept_there (m ∷ K) place q none = go (no_kept_there K place q (λ i a. none i (later-among i m K a))) (is_here q (place m)) refl
   where
-    go : kept_at K place q ≡ None → (b : Bool) → is_at q (place m) ≡ b → kept_at (m ∷ K) place q ≡ None
-    go rest true e = absurd (none m (first_among m K) (is_at-true q (place m) e))
+    go : kept_at K place q ≡ None → (b : Bool) → is_here q (place m) ≡ b → kept_at (m ∷ K) place q ≡ None
+    go rest true e = absurd (none m (first_among m K) (is_here-true q (place m) e))
     go rest false e = ap (λ (b : Bool). cond b (Some m) (kept_at K place q)) e ∙ rest

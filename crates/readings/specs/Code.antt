@@ -1,9 +1,8 @@
 -- A walk in the code, and what it means that draft and code agree.
-use Rattle.std.specs.Prelude.{◌≡◌, ℕ, suc, ◌+◌, ◌-◌, cond, List, [], ◌∷◌, ℤ, pos, negsuc, Some, None, Option, ◌==◌, nat_lt}
+use Rattle.std.specs.Prelude.{◌≡◌, ℕ, suc, ◌+◌, ◌-◌, Bool, false, cond, List, [], ◌∷◌, ℤ, pos, negsuc, Some, None, Option, ◌==◌, nat_lt}
 use Rattle.std.proofs.Math.IntN.{sub_ℕ}
 use Rattle.isa.specs.declared.jumps.Jump.{Jump}
 use Rattle.isa.specs.declared.jumps.Jump.TheVariants.{Branch, Veneer}
-use Rattle.model.specs.Labels.{is_at}
 use Rattle.readings.specs.Walk.{Step, stop, nowhere, on, RunsOff}
 use Rattle.readings.specs.Agree.{Agrees}
 use Rattle.readings.specs.Draft.{Truth, jumps, Draft, Item, item, piece, use_of, label, branch, gap, at, to, Destination, the_piece, the_kept, draft_step}
@@ -28,10 +27,15 @@ piece_at (label l ∷ D) n q = piece_at D n q
 piece_at (branch l r ∷ D) n q = piece_at D n q
 piece_at (gap ∷ D) n q = piece_at D n q
 
+-- a place is this one
+abbrev pub is_here : ℕ → Option ℕ → Bool
+is_here q None = false
+is_here q (Some n) = n == q
+
 -- the label of the trap or constant that stands at an offset
 abbrev pub kept_at : List ℕ → (ℕ → Option ℕ) → ℕ → Option ℕ
 kept_at [] place q = None
-kept_at (l ∷ ls) place q = cond (is_at q (place l)) (Some l) (kept_at ls place q)
+kept_at (l ∷ ls) place q = cond (is_here q (place l)) (Some l) (kept_at ls place q)
 
 -- where something of the draft begins the walk arrives, elsewhere it goes on
 abbrev pub arrive : Option ℕ → Option ℕ → Step ℕ Destination → Step ℕ Destination

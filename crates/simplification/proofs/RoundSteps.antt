@@ -6,6 +6,9 @@ use Rattle.std.proofs.lemmas.List.Sums.{count_by_more_yes, sum_by-take-le}
 use Rattle.std.proofs.lemmas.Bool.{ne_eqb, lt-leb, and_left, and_right, le-ltb}
 use Rattle.model.specs.declared.rows.Branch.{Branch}
 use Rattle.model.specs.declared.rows.Label.{Label}
+use Rattle.model.specs.declared.rows.Place.{Place}
+use Rattle.model.specs.declared.rows.Place.TheVariants.{Nowhere, At, AliasOf}
+use Rattle.model.specs.contracts.rows.PlacePartialEq.TheImpl.{ghosts}
 use Rattle.model.specs.Labels.{unbound, is_at, standing}
 use Rattle.model.specs.State.{State, cur_offset}
 use Rattle.model.specs.Simplify.{last_branch, takes_branch, round, rounds}
@@ -62,16 +65,17 @@ module _ (s v t : State) (i : ℕ) (h : i < 4) (same : v ≡ s) (before : try_ru
   pub step_passed : (Passed, t) ≡ apply (get_or all_rules i CutToNext) v → try_rules (drop (i + 1) all_rules) t ≡ try_rules all_rules s
   step_passed e = step Passed e
 
--- std's equality with a place
-pub place_eq : (at : ℕ) (o : Option ℕ) (b : Bool) → b ≡ option_eq eqb o (Some at) → is_at at o ≡ b
-place_eq at None b e = sym e
-place_eq at (Some n) b e = sym e
+-- the derived equality with a place
+pub place_eq : (at : ℕ) (p : Place) (b : Bool) → b ≡ ghosts.eq p (At at) → is_at at p ≡ b
+place_eq at Nowhere b e = sym e
+place_eq at (At n) b e = sym e
+place_eq at (AliasOf l) b e = sym e
 
 -- where one label more stands at the branch than were counted
-pub stood_some : (s : State) (b : Branch) (xs : List Label) (i n : ℕ) → b ≡ last_branch s → xs ≡ s.labels → i < length xs → n ≡ standing b.start (take i xs) → is_at b.start (get_or xs i (unbound false)).offset ≡ true → n + 1 ≤ standing (last_branch s).start s.labels
+pub stood_some : (s : State) (b : Branch) (xs : List Label) (i n : ℕ) → b ≡ last_branch s → xs ≡ s.labels → i < length xs → n ≡ standing b.start (take i xs) → is_at b.start (get_or xs i (unbound false)).place ≡ true → n + 1 ≤ standing (last_branch s).start s.labels
 stood_some s b xs i n p q h e t =
-    let more = count_by_more_yes (λ (x : Label). is_at b.start x.offset) xs i (unbound false) h t in
-    let part = sum_by-take-le (λ (x : Label). cond (is_at b.start x.offset) 1 0) xs (i + 1) in
+    let more = count_by_more_yes (λ (x : Label). is_at b.start x.place) xs i (unbound false) h t in
+    let part = sum_by-take-le (λ (x : Label). cond (is_at b.start x.place) 1 0) xs (i + 1) in
     let whole : standing b.start xs ≡ standing (last_branch s).start s.labels = ap (λ (x : Branch). standing x.start xs) p ∙ ap (standing (last_branch s).start) q in
     omega arith
 

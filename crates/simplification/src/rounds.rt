@@ -7,6 +7,7 @@ ghost use Rattle.tables.specs.View.{view};
 use crate::attempts::apply_rule;
 use crate::rules::{Outcome, Rule};
 use model::Refusal;
+use model::rows::Place;
 use tables::tables::Tables;
 
 /// labels at the start of a branch that simplification takes
@@ -28,7 +29,7 @@ fn run_rounds(tables: &mut Tables)
         // loop is a chain or a function of its own.
         let mut stood: usize = 0;
         for label in tables.labels.rows.iter() {
-            if label.offset == Some(branch.start) {
+            if label.place == Place::At(branch.start) {
                 stood += 1;
                 if stood > MAX_LABELS_AT_BRANCH {
                     break 'rounds;

@@ -3,7 +3,7 @@ ghost use Rattle.std.specs.Prelude.{◌≡◌, map};
 ghost use Rattle.model.specs.declared.rows.Label.{Label};
 ghost use Rattle.model.specs.Labels.{label_row, root, offset_of, moved, aliased, standing};
 
-use model::rows::{Label, UNKNOWN};
+use model::rows::{Label, Place, UNKNOWN};
 
 // The row of a label, or that of an unbound one.
 fn row_of(labels: &[Label], label: u32) -> Label
@@ -19,9 +19,10 @@ fn row_of(labels: &[Label], label: u32) -> Label
 fn root_of(labels: &[Label], start: u32) -> u32
     ensures { result ≡ root labels.now start }
 {
+    // No more turns than there are labels: that is why it ends.
     let mut label = start;
     for _turn in 0..labels.len() {
-        let Some(alias) = row_of(labels, label).alias else {
+        let Place::AliasOf(alias) = row_of(labels, label).place else {
             return label;
         };
         label = alias;
@@ -33,9 +34,10 @@ fn root_of(labels: &[Label], start: u32) -> u32
 pub fn resolve(labels: &[Label], label: u32) -> u32
     ensures { result ≡ offset_of labels.now label }
 {
-    row_of(labels, root_of(labels, label))
-        .offset
-        .unwrap_or(UNKNOWN)
+    match row_of(labels, root_of(labels, label)).place {
+        Place::At(offset) => offset,
+        _ => UNKNOWN,
+    }
 }
 
 // Edits each row.
@@ -55,9 +57,9 @@ pub fn move_labels(labels: &mut [Label], from: u32, to: u32)
     ensures { labels.new ≡ map (moved from to) labels.old }
 {
     edit_rows(labels, |row| {
-        if row.offset == Some(from) {
+        if row.place == Place::At(from) {
             Label {
-                offset: Some(to),
+                place: Place::At(to),
                 ..row
             }
         } else {
@@ -71,10 +73,9 @@ pub fn alias_labels(labels: &mut [Label], at: u32, target: u32)
     ensures { labels.new ≡ map (aliased at target) labels.old }
 {
     edit_rows(labels, |row| {
-        if row.offset == Some(at) {
+        if row.place == Place::At(at) {
             Label {
-                offset: None,
-                alias: Some(target),
+                place: Place::AliasOf(target),
                 ..row
             }
         } else {
@@ -89,6 +90,6 @@ pub fn count_standing(labels: &[Label], offset: u32) -> usize
 {
     labels
         .iter()
-        .filter(|row| row.offset == Some(offset))
+        .filter(|row| row.place == Place::At(offset))
         .count()
 }

@@ -7,6 +7,7 @@ ghost use Rattle.buffer.specs.View.{view};
 use super::MachBuffer;
 use isa::InstructionSet;
 use model::Refusal;
+use model::rows::Place;
 use simplification::rounds::{optimize_branches, simplify};
 use std::alloc::{AllocError, Global};
 use table_calls::labels::get_label;
@@ -39,7 +40,7 @@ impl<S: InstructionSet + Drop> MachBuffer<S> {
         self.tables.unbroken()?;
         self.tables.no_region_open()?;
         let row = self.tables.label(label)?;
-        if row.offset.is_some() || row.alias.is_some() || row.reserved {
+        if row.place != Place::Nowhere || row.reserved {
             return Err(Refusal::AlreadyBound);
         }
         self.aligned()?;

@@ -9,7 +9,7 @@ use super::Tables;
 use crate::capacities::MAX_LABELS;
 use crate::table::Table;
 use model::Refusal;
-use model::rows::{LATEST, Label};
+use model::rows::{LATEST, Label, Place};
 use slices::labels::{alias_labels, move_labels};
 use std::alloc::{AllocError, Global};
 
@@ -61,7 +61,7 @@ impl Tables {
         requires { label < vec_len self.old.labels.rows }
         ensures { view self.new ≡ bind (view self.old) label }
     {
-        self.labels.rows[label as usize].offset = Some(self.code.rows.len() as u32);
+        self.labels.rows[label as usize].place = Place::At(self.code.rows.len() as u32);
     }
 
     /// Moves each label that stands at one offset to another.

@@ -27,7 +27,7 @@ pub returns-then-stood-gt-MAX_LABELS_AT_BRANCH : goal.returns-then-stood-gt-MAX_
 returns-then-stood-gt-MAX_LABELS_AT_BRANCH c =
     let s = view c.rounds.tables in
     let more = stood_some s c.last_branch_of-branch.result c.deref-label-items.result.now c.loop-label.label-index c.loop-label.stood
-    c.last_branch_of-branch.ensures c.deref-label-items.ensures.value c.loop-label-test.true c.loop-label.invariant.1 (place_eq c.last_branch_of-branch.result.start (get_or c.deref-label-items.result.now c.loop-label.label-index (unbound false)).offset true c.if-eq.ensures) in
+    c.last_branch_of-branch.ensures c.deref-label-items.ensures.value c.loop-label-test.true c.loop-label.invariant.1 (place_eq c.last_branch_of-branch.result.start (get_or c.deref-label-items.result.now c.loop-label.label-index (unbound false)).place true c.if-eq.ensures) in
     sym (over_none s (takes_crowded s (omega arith)) c.rounds.invariant.0) ∙ c.rounds.invariant.2
 
 falls : (c : goal.In-Applied) → fuel (view c.apply_rule.new.tables) < fuel (view c.rounds.tables)
