@@ -1,7 +1,5 @@
 // Where displacements and senses stand, and which words are branches.
-ghost use Rattle.std.specs.Prelude.{◌≡◌};
 ghost use Rattle.short_set.specs.Meaning.{short_words};
-ghost use Rattle.short_set.specs.Roles.{condition};
 
 use crate::set::{BRANCH, JUMP, LOAD, Short};
 use bits::{Format, Piece, get_field};
@@ -38,14 +36,6 @@ const FAR_REACHING: Format = Format::Pieces {
     sign: 20,
 };
 
-fn condition_of(code: u32) -> Condition
-    ensures { result ≡ condition code }
-{
-    Condition::Flags {
-        test: get_field(code, 9, 3),
-    }
-}
-
 impl WordSet for Short {
     ghost encoding = { λ _. short_words };
 
@@ -61,7 +51,9 @@ impl WordSet for Short {
         if kind < LOAD && get_field(code, 0, 8) == kind + 1 {
             Some(if kind == BRANCH {
                 Role::Conditional {
-                    condition: condition_of(code),
+                    condition: Condition::Flags {
+                        test: get_field(code, 9, 3),
+                    },
                     sense: get_field(code, 8, 1) == 1,
                 }
             } else {
