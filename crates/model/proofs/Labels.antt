@@ -1,7 +1,7 @@
 -- Where labels stand: tests of a place, and what binding a label leaves as it was.
 use Rattle.std.proofs.Common.{◌≡◌, ℕ, Bool, true, false, not, ◌≢◌, ◌⊎◌, List, length, Some, None, Option, is_some, is_none, sym, refl, ap, ◌∙◌, inl, inr, length-set}
-use Rattle.std.proofs.lemmas.Bool.{eq-eqb, ne_eqb, eqb-true, eqb-false, cases_eq, false≢true}
-use Rattle.std.proofs.lemmas.Option.{none-some, same_Some}
+use Rattle.std.proofs.lemmas.Bool.{eq-eqb, ne_eqb, eqb-true, false≢true}
+use Rattle.std.proofs.lemmas.Option.{none-some}
 use Rattle.model.specs.declared.rows.Label.{Label}
 use Rattle.model.specs.declared.rows.Place.{Place}
 use Rattle.model.specs.declared.rows.Place.TheVariants.{Nowhere, At, AliasOf}
