@@ -40,7 +40,7 @@ module _ (ls us : List Label) (cs : List Constant) (o : OrderlyLabels ls) (alike
   still_unaliased = alike.aliases (root ls l) ∙ end_found.unaliased
 
   still_placed : NeverForward (label_row ls (root ls l)) (label_row us (root ls l)) → offset_in (label_row us (root ls l)).place ≢ None
-  still_placed (inl a) = absurd (none-some a.of_label (sym still_unaliased ∙ ap alias_in a.aliased))
+  still_placed (inl a) = absurd (none-some a.to (sym still_unaliased ∙ ap alias_in a.aliased))
   still_placed (inr p) = some-known p.to _ (ap offset_in p.stands)
 
   now_placed : (label_row ls (root ls l)).reserved ≡ true → offset_in (label_row us (root ls l)).place ≢ None

@@ -46,7 +46,7 @@ moves_on x y z f g = record { stays = λ a h. g.stays a (ap (λ (w : Label). w.p
     further a (inr b) = let e = same_at y.place a.to b.from a.stands b.stood in inr (record { from = a.from; to = b.to; stood = a.stood; stands = b.stands; no_later = omega (arith, a.no_later, b.no_later) })
 
     by : NeverForward x y → NeverForward x z
-    by (inl a) = inl (subst IsAlias (sym (g.stays a.of_label a.aliased)) a)
+    by (inl a) = inl (subst IsAlias (sym (g.stays a.to a.aliased)) a)
     by (inr a) = further a (g.falls a.to a.stands)
 
 -- a table is a later one of itself, and of those before

@@ -75,7 +75,7 @@ module _ (ls : List Label) (from target : ℕ) (exists : target < length ls) (o 
       where
         by : (x.place ≡ At from) ⊎ (x.place ≢ At from) → Moves x (aliased from target x)
         by (inl e) =
-            rw (aliased_there from target x e) (record { stays = λ a h. absurd (none-some a (ap alias_in (sym e ∙ h))); falls = λ at h. inl (record { of_label = target; aliased = refl }); reserved = refl })
+            rw (aliased_there from target x e) (record { stays = λ a h. absurd (none-some a (ap alias_in (sym e ∙ h))); falls = λ at h. inl (record { to = target; aliased = refl }); reserved = refl })
         by (inr n) = same_moves x (aliased from target x) (aliased_other from target x n)
 
     pub aliased_keeps : Keeps ls redirected

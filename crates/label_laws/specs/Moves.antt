@@ -6,8 +6,8 @@ use Rattle.model.specs.Labels.{label_row}
 
 -- it has become an alias
 pub record IsAlias (after : Label) : Type 0 where
-  pub of_label : ℕ
-  pub aliased : after.place ≡ AliasOf of_label
+  pub to : ℕ
+  pub aliased : after.place ≡ AliasOf to
 
 -- it stands where it stood, or at a lower offset
 pub record StandsNoLater (before after : Label) : Type 0 where
