@@ -187,11 +187,7 @@ fn cross<S: InstructionSet + Drop>(
             let wrong = Ok(place(region));
             (wrong, wrong, close(other, second))
         }
-        Err((refusal, first)) => (
-            Err(refusal.into()),
-            close(one, first),
-            close(other, second),
-        ),
+        Err((refusal, first)) => (Err(refusal.into()), close(one, first), close(other, second)),
     }
 }
 
