@@ -1,5 +1,8 @@
 -- A text of hexadecimal pairs, and what the library reads of it.
-use Rattle.std.proofs.Common.{◌≡◌, ℕ, suc, ◌+◌, ◌-◌, ◌*◌, ◌/◌, ◌%◌, ◌^◌, ◌<◌, false, List, [], ◌∷◌, ◌++◌, length, get_or, take, Some, None, Ok, Err, Option, Result, sym, refl, ap, ◌∙◌, arith}
+use Rattle.std.proofs.Common.{◌≡◌, ℕ, suc, ◌+◌, ◌-◌, ◌*◌, ◌/◌, ◌%◌, ◌^◌, ◌<◌, true, false, ◌&&◌, List, [], ◌∷◌, ◌++◌, length, get_or, take, Some, None, Ok, Err, Option, Result, sym, refl, ap, ◌∙◌, arith}
+use Rattle.std.specs.Prelude.{is_some}
+use Rattle.std.specs.Char.{is_ascii_hexdigit}
+use Rattle.std.specs.List.{list_all}
 use Rattle.std.specs.Result.{result_ok}
 use Rattle.std.specs.Fmt.{digits, format_spec, padded_integral}
 use Rattle.std.proofs.lemmas.Bool.Decides.{nat_tests}
@@ -87,3 +90,58 @@ pub text_more : (xs : List ℕ) (i : ℕ) → i < length xs → get_or xs i 0 < 
     → hex_text (take i xs) ++ padded_integral (format_spec 32 0 4 2 (2 ^ 64 - 1)) false [] (digits 16 false (get_or xs i 0)) ≡ hex_text (take (i + 1) xs)
 text_more xs i inside small =
     ap (λ (s : List ℕ). hex_text (take i xs) ++ s) (hex_byte false (get_or xs i 0) small) ∙ sym (text_push (take i xs) (get_or xs i 0)) ∙ ap hex_text (sym (take_more xs i 0 inside))
+
+-- a code has a value exactly where it is a digit
+digit_has : (c : ℕ) → is_some (digit_value c) ≡ is_ascii_hexdigit c
+digit_has c = grind (arith, nat_tests)
+
+followed_has : (o p : Option ℕ) (r : Option (List ℕ)) → is_some (followed (paired o p) r) ≡ (is_some o && (is_some p && is_some r))
+followed_has None p r = refl
+followed_has (Some x) None r = refl
+followed_has (Some x) (Some y) None = refl
+followed_has (Some x) (Some y) (Some bs) = refl
+
+-- two more codes write a byte exactly where both are digits
+more_has : (a b : ℕ) (rest : List ℕ)
+    → is_some (hex_bytes (a ∷ b ∷ rest)) ≡ (is_ascii_hexdigit a && (is_ascii_hexdigit b && is_some (hex_bytes rest)))
+more_has a b rest =
+    followed_has (digit_value a) (digit_value b) (hex_bytes rest)
+    ∙ ap (λ v. v && (is_some (digit_value b) && is_some (hex_bytes rest))) (digit_has a)
+    ∙ ap (λ v. is_ascii_hexdigit a && (v && is_some (hex_bytes rest))) (digit_has b)
+
+-- a text of even length writes bytes exactly where it is digits throughout
+pub even_digits : (text : List ℕ) → length text % 2 ≡ 0 → is_some (hex_bytes text) ≡ list_all is_ascii_hexdigit text
+even_digits [] h = refl
+even_digits (a ∷ []) h = absurd (omega arith)
+even_digits (a ∷ b ∷ rest) h =
+    more_has a b rest ∙ ap (λ v. is_ascii_hexdigit a && (is_ascii_hexdigit b && v)) (even_digits rest (omega arith))
+
+-- digits of an even length write bytes
+pub digits_write : (text : List ℕ) → list_all is_ascii_hexdigit text ≡ true → length text % 2 ≡ 0 → is_some (hex_bytes text) ≡ true
+digits_write text d h = even_digits text h ∙ d
+
+-- a text that writes bytes is digits throughout
+pub digits_of : (text bs : List ℕ) → hex_bytes text ≡ Some bs → list_all is_ascii_hexdigit text ≡ true
+digits_of text bs h =
+    let odd : length text % 2 ≡ 1 → hex_bytes text ≡ None = odd_none text in
+    let even : length text % 2 ≡ 0 → is_some (hex_bytes text) ≡ list_all is_ascii_hexdigit text = even_digits text in
+    grind arith
+
+none_unless : (o : Option (List ℕ)) → ((bs : List ℕ) → o ≡ Some bs → ⊥) → o ≡ None
+none_unless None h = refl
+none_unless (Some bs) h = absurd (h bs refl)
+
+-- a text that is not digits throughout writes no bytes
+pub not_digits : (text : List ℕ) → list_all is_ascii_hexdigit text ≡ false → hex_bytes text ≡ None
+not_digits text h =
+    none_unless (hex_bytes text) (λ bs e. let d : list_all is_ascii_hexdigit text ≡ true = digits_of text bs e in cc)
+
+-- digits that write no bytes are of an odd length
+pub odd_digits : (text : List ℕ) → list_all is_ascii_hexdigit text ≡ true → hex_bytes text ≡ None → length text % 2 ≡ 1
+odd_digits text d h =
+    let even : length text % 2 ≡ 0 → is_some (hex_bytes text) ≡ true = digits_write text d in
+    grind arith
+
+-- the text of some bytes is digits throughout
+pub text_digits : (bs : List ℕ) → Small bs → list_all is_ascii_hexdigit (hex_text bs) ≡ true
+text_digits bs small = digits_of (hex_text bs) bs (text_back bs small)

@@ -1,5 +1,7 @@
 //! Bytes as text, the names of the sets, and lines to pass over.
 ghost use Rattle.std.specs.Prelude.{◌≡◌, ℕ, ◌||◌, List, length, Some, None, MatchResult, ◌==◌, slice_index};
+ghost use Rattle.std.specs.Char.{is_ascii_hexdigit};
+ghost use Rattle.std.specs.List.{list_all};
 ghost use Rattle.std.specs.Result.{result_ok};
 ghost use Rattle.jump_report.specs.declared.text.HexError.TheVariants.{OutOfMemory, NotHex};
 ghost use Rattle.jump_report.specs.Hex.{from_library, hex_bytes, hex_text, Small};
@@ -91,12 +93,24 @@ pub fn is_comment(line: &str) -> bool
     line.is_empty() || line.starts_with('#')
 }
 
+// Whether bytes are hexadecimal digits and nothing else.
+fn is_digits(text: &[u8]) -> bool
+    ensures { result ≡ list_all is_ascii_hexdigit text.now }
+{
+    text.iter().all(|digit| digit.is_ascii_hexdigit())
+}
+
 /// The bytes that a text of hexadecimal pairs writes.
-#[tactic(auto, using(crate::proofs::HexLaws::decoded, crate::proofs::HexLaws::decoded_text, crate::proofs::HexLaws::even_text))]
+#[tactic(auto, using(crate::proofs::HexLaws::decoded, crate::proofs::HexLaws::decoded_text, crate::proofs::HexLaws::even_text, crate::proofs::HexLaws::not_digits, crate::proofs::HexLaws::odd_digits, crate::proofs::HexLaws::text_digits))]
 pub fn parse_hex(heap: Global, text: &str) -> Result<Vec<u8>, HexError>
     ensures value { MatchResult result (λ v. hex_bytes text.now ≡ Some v.items) (λ e. (e ≡ NotHex → hex_bytes text.now ≡ None)) }
     ensures back { (bs : List ℕ) → Small bs → text.now ≡ hex_text bs → MatchResult result (λ v. v.items ≡ bs) (λ e. e ≡ OutOfMemory) }
+    ensures refused { hex_bytes text.now ≡ None → result ≡ Err NotHex }
 {
+    // The library takes memory before it looks at a digit; a text that is no hex is refused whatever memory there is.
+    if !is_digits(text.as_bytes()) {
+        return Err(HexError::NotHex);
+    }
     Ok(hex::decode(heap, text)?)
 }
 
