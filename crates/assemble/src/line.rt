@@ -1,5 +1,5 @@
 // Reading a line.
-ghost use Rattle.std.specs.Prelude.{◌≡◌, ◌==◌, ◌||◌, length, slice_index, is_none, IfOk};
+ghost use Rattle.std.specs.Prelude.{◌≡◌, ◌==◌, ◌||◌, length, slice_index, is_none, IfOk, true, Ok, None};
 ghost use Rattle.replay.specs.Calls.{call_of};
 ghost use Rattle.assemble.specs.Meant.{call_meant};
 
@@ -175,7 +175,8 @@ fn parse_call(name: &str, words: &mut Words) -> Result<ScriptCall, LineError> {
 
 /// Reads a line. One that is empty or begins with `#`, of code 35, asks nothing.
 pub fn parse_line(heap: Global, text: &str) -> Result<Option<Line>, LineError>
-    ensures { IfOk result (λ line. is_none line ≡ (length text.now == 0 || slice_index text.now 0 == 35)) }
+    ensures passed_over { (length text.now == 0 || slice_index text.now 0 == 35) ≡ true → result ≡ Ok None }
+    ensures asks { IfOk result (λ line. is_none line ≡ (length text.now == 0 || slice_index text.now 0 == 35)) }
 {
     if is_comment(text) {
         return Ok(None);

@@ -49,7 +49,11 @@ fn print_tables<S: InstructionSet + Drop>(rt: &impl Print, replay: &Replay<S>) -
     println!(rt; "labels {}", Labels(buffer))?;
     println!(rt; "traps {}", Rows(buffer.traps()))?;
     println!(rt; "constants {}", Rows(buffer.placed_constants()))?;
-    println!(rt; "counts {}", Balance(replay))
+    let balance = Balance {
+        counts: replay.counts,
+        waiting: buffer.waiting_len(),
+    };
+    println!(rt; "counts {balance}")
 }
 
 fn print_replay<S: InstructionSet + Drop>(

@@ -8,7 +8,7 @@ use isa::InstructionSet;
 use jump_report::text::Hex;
 use model::Refusal;
 use model::rows::{PlacedConstant, Region, Trap};
-use replay::{Answer, Call, Counts, Replay, Reply};
+use replay::{Answer, Call, Counts, Reply};
 use std::fmt;
 
 /// What a call answered.
@@ -142,18 +142,21 @@ where
 }
 
 /// The counts of a list of calls, and how many uses wait.
-#[derive(Drop)]
-pub struct Balance<'a, S>(pub &'a Replay<S>);
+#[derive(Clone, Copy)]
+pub struct Balance {
+    pub counts: Counts,
+    pub waiting: u32,
+}
 
-impl<S: InstructionSet + Drop> fmt::Display for Balance<'_, S> {
+impl fmt::Display for Balance {
     fn fmt<W: fmt::Write>(&self, f: &mut fmt::Formatter<W>) -> fmt::Result {
         let Counts {
             accepted,
             made,
             patched,
             removed,
-        } = self.0.counts;
-        let waiting = self.0.session.buffer.waiting_len();
+        } = self.counts;
+        let waiting = self.waiting;
         write!(
             f,
             "accepted {accepted} made {made} patched {patched} removed {removed} waiting {waiting}"

@@ -78,9 +78,9 @@ pub type Answer = Result<u32, u32>;
 /// Where an unbound label is.
 pub const UNBOUND: u32 = 4294967295;
 
-// Why a call or a question has no number for an answer.
+/// Why a call or a question has no number for an answer.
 #[derive(Clone, Copy)]
-enum Failure {
+pub enum Failure {
     Refused(Refusal),
     /// no buffer answers so
     NoAnswer,
@@ -246,7 +246,8 @@ fn keep(token: &mut Option<OpenPatchRegion>, region: OpenPatchRegion) {
     }
 }
 
-fn open<S: InstructionSet + Drop>(
+/// Opens a region, and keeps its token.
+pub fn open<S: InstructionSet + Drop>(
     buffer: &mut MachBuffer<S>,
     token: &mut Option<OpenPatchRegion>,
 ) -> Result<u32, Failure> {
