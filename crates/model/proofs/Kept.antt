@@ -1,5 +1,5 @@
 -- What holds of a new buffer, and is kept by everything that a call may do to the tables, holds after every list of calls.
-use Rattle.std.proofs.Common.{◌≡◌, ℕ, ◌+◌, ◌%◌, ◌<◌, ◌≤◌, Bool, true, false, cond, not, ◌&&◌, ◌||◌, eqb, ltb, leb, List, [], ◌∷◌, ◌++◌, length, ℤ, pos, negsuc, Some, None, Option, is_some, refl, ap, arith}
+use Rattle.std.proofs.Common.{◌≡◌, ℕ, ◌+◌, ◌%◌, ◌<◌, ◌≤◌, Bool, true, false, cond, not, ◌&&◌, ◌||◌, eqb, ltb, leb, List, [], ◌∷◌, ◌++◌, length, ℤ, pos, negsuc, IfSome, Some, None, Option, is_some, refl, ap, arith}
 use lib.ListN.{length-replicate}
 use Rattle.std.proofs.lemmas.Bool.{ltb-false, leb-false, eqb-true, and_parts, not-false, cond_both, false≢true, true≢false}
 use Rattle.std.proofs.lemmas.Bool.Decides.{nat_tests}
@@ -57,7 +57,7 @@ pub record Kept (i : Isa) (P R : State → Type 0) : Type 0 where
   pub simple : (s : State) → P s → P (simplified false s)
   pub data_put : (s : State) (trap : ℕ) (bytes : List ℕ) → P s → (0 < trap → length s.traps + length s.deferred < max_traps) → cur_offset s + length bytes ≤ max_code → P (with_code (add_trap s trap) (s.code ++ bytes))
   pub used : (s : State) (l k : ℕ) (bytes : List ℕ) → P s → Fits i s l k bytes → (i.adds k ≡ true → i.reads k bytes ≡ pos 0) → P (append_use i s l k bytes)
-  pub branched : (s : State) (l k : ℕ) (bytes : List ℕ) (inverted : Option (List ℕ)) → P s → Fits i s l k bytes → is_some (i.role k bytes) ≡ true → length s.branches < max_branches → P (append_branch i s l k bytes inverted)
+  pub branched : (s : State) (l k : ℕ) (bytes : List ℕ) (inverted : Option (List ℕ)) → P s → Fits i s l k bytes → IfSome inverted (λ x. length x ≡ i.size k) → is_some (i.role k bytes) ≡ true → length s.branches < max_branches → P (append_branch i s l k bytes inverted)
   pub trap_deferred : (s : State) (trap : ℕ) → P s → length s.traps + length s.deferred < max_traps → length s.labels < max_labels → P (with_deferred (add_label s true) (s.deferred ++ record { label = length s.labels; code = trap } ∷ []))
   pub registered : (s : State) (size align : ℕ) → P s → is_constant i size align ≡ true → length s.constants < max_constants → P (with_constants s (s.constants ++ record { size = size; align = align; label = None } ∷ []))
   pub requested : (s : State) (n : ℕ) → P s → Unrequested s n → length s.requested + length s.placed < max_requests → length s.labels < max_labels → P (with_requested (with_constants (add_label s true) (label_constant s n (Some (length s.labels)))) (s.requested ++ n ∷ []))
@@ -141,7 +141,7 @@ module _ {i : Isa} {P R : State → Type 0} (w : Kept i P R) where
             (adding_reads _ _ parts.1);
       }))))))))
 
-  branch_keeps : (s : State) (suits : Bool) (l k : ℕ) (bytes : List ℕ) (inverted : Option (List ℕ)) → (suits ≡ true → (length bytes ≡ i.size k) × (is_some (i.role k bytes) ≡ true)) → P s → After P (add_branch i s suits l k bytes inverted)
+  branch_keeps : (s : State) (suits : Bool) (l k : ℕ) (bytes : List ℕ) (inverted : Option (List ℕ)) → (suits ≡ true → (length bytes ≡ i.size k) × IfSome inverted (λ x. length x ≡ i.size k) × (is_some (i.role k bytes) ≡ true)) → P s → After P (add_branch i s suits l k bytes inverted)
   branch_keeps s suits l k bytes inverted h p =
       unless P s.broken _ s _ p (λ _. unless P (is_open s) _ s _ p (λ shut. unless P (no_label s l) _ s _ p (λ known. unless P (leb i.kinds k) _ s _ p (λ kind. unless P (not suits) _ s _ p (λ suit.
       unless P (misaligned i s) _ s _ p (λ at. unless P (fixups_full s) _ s _ p (λ full. unless P (branches_full s) _ s _ p (λ many. unless P (no_room s (length bytes)) _ s _ p (λ room.
@@ -149,7 +149,7 @@ module _ {i : Isa} {P R : State → Type 0} (w : Kept i P R) where
       record {
         holds = w.branched s l k bytes inverted p
             (record { closed = shut; exists = leb-false _ _ known; kind = leb-false _ _ kind; long = x.0; aligned = eqb-true _ _ (not-false _ at); waits = leb-false _ _ full; room = ltb-false _ _ room })
-            x.1 (leb-false _ _ many);
+            x.1 x.2 (leb-false _ _ many);
       })))))))))
 
   defer_trap_keeps : (s : State) (trap : ℕ) → P s → After P (defer_trap s trap)
@@ -229,10 +229,10 @@ module _ {i : Isa} {P R : State → Type 0} (w : Kept i P R) where
   step_later s (AlignTo n) p = later _ _ (align_to_keeps s n p).holds
   step_later s (UseLabelAtOffset l k bytes) p = later _ _ (use_keeps s l k bytes p).holds
   step_later s (AddUncondBranch l k bytes) p =
-      later _ _ (branch_keeps s (is_jump i k bytes) l k bytes None (λ e. let x = and_parts _ _ e in (eqb-true _ _ x.0, jump_is_branch _ x.1)) p).holds
+      later _ _ (branch_keeps s (is_jump i k bytes) l k bytes None (λ e. let x = and_parts _ _ e in (eqb-true _ _ x.0, tt, jump_is_branch _ x.1)) p).holds
   step_later s (AddCondBranch l k bytes inverted) p =
       later _ _ (branch_keeps s (inversion i k bytes inverted) l k bytes (Some inverted) (λ e.
-      let x = and_parts _ _ e in let y = and_parts _ _ x.1 in let z = and_parts _ _ y.1 in (eqb-true _ _ x.0, opposite-is_branch _ _ z.0)) p).holds
+      let x = and_parts _ _ e in let y = and_parts _ _ x.1 in let z = and_parts _ _ y.1 in (eqb-true _ _ x.0, eqb-true _ _ y.0, opposite-is_branch _ _ z.0)) p).holds
   step_later s (DeferTrap trap) p = later _ _ (defer_trap_keeps s trap p).holds
   step_later s (RegisterConstant size align) p = later _ _ (register_keeps s size align p).holds
   step_later s (GetLabelForConstant n) p = later _ _ (request_keeps s n p).holds

@@ -1,5 +1,5 @@
 -- After every list of calls to a lawful set, the uses that wait are in place, and the code is not too long.
-use Rattle.std.proofs.Common.{◌≡◌, ℕ, ◌+◌, ◌-◌, ◌%◌, ◌<◌, ◌≤◌, Bool, true, false, ◌&&◌, ltb, leb, List, [], ◌∷◌, ◌++◌, map, length, get_or, take, drop, set, pos, Some, None, Option, is_some, sym, refl, ap, ◌∙◌, subst, ⊎_elim, append_assoc, arith, length-append, length-set, length-take}
+use Rattle.std.proofs.Common.{◌≡◌, ℕ, ◌+◌, ◌-◌, ◌%◌, ◌<◌, ◌≤◌, Bool, true, false, ◌&&◌, ltb, leb, List, [], ◌∷◌, ◌++◌, map, length, get_or, take, drop, set, pos, IfSome, Some, None, Option, is_some, sym, refl, ap, ◌∙◌, subst, ⊎_elim, append_assoc, arith, length-append, length-set, length-take}
 use lib.IntN.{sub_ℕ}
 use lib.ListN.{length-replicate}
 use Rattle.std.specs.List.{AllByRecursion}
@@ -302,15 +302,15 @@ module _ (i : Isa) (y : Lawful i) where
   branch_adds_not : (k : ℕ) (bytes : List ℕ) → OfKind i k bytes → is_some (i.role k bytes) ≡ true → i.adds k ≡ false
   branch_adds_not k bytes f b = ⊎_elim (λ e. absurd (false≢true (sym (ap is_some (y.adds_no_branch k bytes f e)) ∙ b))) (λ e. e) (cases_Bool (i.adds k))
 
-  branched_orderly : (s : State) (l k : ℕ) (bytes : List ℕ) (inverted : Option (List ℕ)) → Orderly i s → Fits i s l k bytes → is_some (i.role k bytes) ≡ true → length s.branches < max_branches → Orderly i (append_branch i s l k bytes inverted)
-  branched_orderly s l k bytes inverted o f b h =
+  branched_orderly : (s : State) (l k : ℕ) (bytes : List ℕ) (inverted : Option (List ℕ)) → Orderly i s → Fits i s l k bytes → IfSome inverted (λ x. length x ≡ i.size k) → is_some (i.role k bytes) ≡ true → length s.branches < max_branches → Orderly i (append_branch i s l k bytes inverted)
+  branched_orderly s l k bytes inverted o f n b h =
       let no_sum = branch_adds_not k bytes (record { kind = f.kind; long = f.long }) b in
       let z : i.adds k ≡ true → i.reads k bytes ≡ pos 0 = λ a. absurd (false≢true (sym no_sum ∙ a)) in
       let g = fixup_at i l (cur_offset s) k in
       let r = append_branch i s l k bytes inverted in
       record {
         room = simp length-append f.room;
-        steady = (calls_keep_steady i y).branched s l k bytes inverted o.steady f b h;
+        steady = (calls_keep_steady i y).branched s l k bytes inverted o.steady f n b h;
         labels_whole = o.labels_whole;
         constants_whole = o.constants_whole;
         requests_known = o.requests_known;

@@ -45,7 +45,7 @@ calls_keep_within i = record {
   simple = simplified_keeps rules_keep_within forgot_within false;
   data_put = λ s trap bytes k h _. data_within s trap bytes k h;
   used = λ s l n bytes k f _. record { labels_fit = k.labels_fit; fixups_fit = simp length-append (omega (arith, f.waits)); branches_fit = k.branches_fit; traps_fit = k.traps_fit; constants_fit = k.constants_fit; requests_fit = k.requests_fit; regions_fit = k.regions_fit; open_fits = k.open_fits };
-  branched = λ s l n bytes inverted k f _ h. record { labels_fit = k.labels_fit; fixups_fit = simp length-append (omega (arith, f.waits)); branches_fit = simp length-append (omega arith); traps_fit = k.traps_fit; constants_fit = k.constants_fit; requests_fit = k.requests_fit; regions_fit = k.regions_fit; open_fits = k.open_fits };
+  branched = λ s l n bytes inverted k f _ _ h. record { labels_fit = k.labels_fit; fixups_fit = simp length-append (omega (arith, f.waits)); branches_fit = simp length-append (omega arith); traps_fit = k.traps_fit; constants_fit = k.constants_fit; requests_fit = k.requests_fit; regions_fit = k.regions_fit; open_fits = k.open_fits };
   trap_deferred = λ s d k h j. record { labels_fit = simp length-append (omega arith); fixups_fit = k.fixups_fit; branches_fit = k.branches_fit; traps_fit = simp length-append (omega arith); constants_fit = k.constants_fit; requests_fit = k.requests_fit; regions_fit = k.regions_fit; open_fits = k.open_fits };
   registered = λ s size align k _ h. record { labels_fit = k.labels_fit; fixups_fit = k.fixups_fit; branches_fit = k.branches_fit; traps_fit = k.traps_fit; constants_fit = simp length-append (omega arith); requests_fit = k.requests_fit; regions_fit = k.regions_fit; open_fits = k.open_fits };
   requested = λ s n k _ h j. record { labels_fit = simp length-append (omega arith); fixups_fit = k.fixups_fit; branches_fit = k.branches_fit; traps_fit = k.traps_fit; constants_fit = simp length-set k.constants_fit; requests_fit = simp length-append (omega arith); regions_fit = k.regions_fit; open_fits = k.open_fits };

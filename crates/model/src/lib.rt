@@ -6,8 +6,8 @@
 //! `Finish` the calls, `Questions` what may be asked at any time, and `After` what may be done with finished code. All
 //! of it stands over any meaning of an instruction set.
 //!
-//! Nothing here is run. The rows and the refusals are the ones that the code uses, the contracts of the code cite
-//! the definitions, and `laws` says what holds of every list of calls.
+//! The rows and the refusals, with their methods, are the ones that the code uses and runs; nothing else here is run.
+//! The contracts of the code cite the definitions, and `laws` says what holds of every list of calls.
 #![tactic(auto)]
 
 pub mod laws;
