@@ -1,5 +1,5 @@
 -- A text of hexadecimal pairs, and what the library reads of it.
-use Rattle.std.proofs.Common.{◌≡◌, ℕ, suc, ◌+◌, ◌-◌, ◌*◌, ◌/◌, ◌%◌, ◌^◌, ◌<◌, true, false, ◌&&◌, List, [], ◌∷◌, ◌++◌, length, get_or, take, Some, None, Ok, Err, Option, Result, sym, refl, ap, ◌∙◌, arith}
+use Rattle.std.proofs.Common.{◌≡◌, ℕ, suc, ◌+◌, ◌-◌, ◌*◌, ◌/◌, ◌%◌, ◌^◌, ◌<◌, true, false, ◌&&◌, List, [], ◌∷◌, ◌++◌, length, get_or, take, drop, Some, None, Ok, Err, Option, Result, sym, refl, ap, ◌∙◌, arith}
 use Rattle.std.specs.Prelude.{is_some}
 use Rattle.std.specs.Char.{is_ascii_hexdigit}
 use Rattle.std.specs.List.{list_all}
@@ -7,7 +7,8 @@ use Rattle.std.specs.Result.{result_ok}
 use Rattle.std.specs.Fmt.{digits, format_spec, padded_integral}
 use Rattle.std.proofs.lemmas.Bool.Decides.{nat_tests}
 use Rattle.std.proofs.lemmas.Fmt.{hex_byte}
-use Rattle.std.proofs.lemmas.List.{take_more}
+use Rattle.std.proofs.lemmas.List.{take_more, take-append-drop}
+use Rattle.std.proofs.lemmas.List.Folds.{list_all-append}
 use Rattle.hex.specs.declared.error.FromHexError.{FromHexError}
 use Rattle.hex.specs.Hex.{decode_of, decode_pairs, digit_or_error, hex_digit_value, ◌>>=◌}
 use Rattle.jump_report.specs.Hex.{digit_value, paired, pair_value, followed, hex_bytes, digit_code, hex_text, Small}
@@ -145,3 +146,7 @@ odd_digits text d h =
 -- the text of some bytes is digits throughout
 pub text_digits : (bs : List ℕ) → Small bs → list_all is_ascii_hexdigit (hex_text bs) ≡ true
 text_digits bs small = digits_of (hex_text bs) bs (text_back bs small)
+
+-- a list is digits throughout where its front and what comes behind it are
+pub digits_parted : (n : ℕ) (xs : List ℕ) → list_all is_ascii_hexdigit xs ≡ (list_all is_ascii_hexdigit (take n xs) && list_all is_ascii_hexdigit (drop n xs))
+digits_parted n xs = ap (list_all is_ascii_hexdigit) (sym (take-append-drop n xs)) ∙ list_all-append is_ascii_hexdigit (take n xs) (drop n xs)

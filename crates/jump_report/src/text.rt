@@ -93,11 +93,32 @@ pub fn is_comment(line: &str) -> bool
     line.is_empty() || line.starts_with('#')
 }
 
-// Whether bytes are hexadecimal digits and nothing else.
+// Whether a few bytes are hexadecimal digits and nothing else. Each is looked at, which goes many at a time.
+#[tactic(auto, using(std::proofs::lemmas::List::Folds::list_all_more))]
+fn are_digits(text: &[u8]) -> bool
+    ensures { result ≡ list_all is_ascii_hexdigit text.now }
+{
+    let mut all = true;
+    for digit in text {
+        all &= digit.is_ascii_hexdigit();
+    }
+    all
+}
+
+// Whether bytes are hexadecimal digits and nothing else. Part by part, so that it ends soon where they are not.
+#[tactic(auto, using(crate::proofs::HexLaws::digits_parted))]
 fn is_digits(text: &[u8]) -> bool
     ensures { result ≡ list_all is_ascii_hexdigit text.now }
 {
-    text.iter().all(|digit| digit.is_ascii_hexdigit())
+    let mut rest = text;
+    while rest.len() > 64 {
+        let (part, more) = rest.split_at(64);
+        if !are_digits(part) {
+            return false;
+        }
+        rest = more;
+    }
+    are_digits(rest)
 }
 
 /// The bytes that a text of hexadecimal pairs writes.
