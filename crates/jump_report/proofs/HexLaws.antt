@@ -17,7 +17,8 @@ followed_none : (o : Option ℕ) → followed o None ≡ None
 followed_none None = refl
 followed_none (Some x) = refl
 
-odd_none : (xs : List ℕ) → length xs % 2 ≡ 1 → hex_bytes xs ≡ None
+-- a text of odd length writes no bytes
+pub odd_none : (xs : List ℕ) → length xs % 2 ≡ 1 → hex_bytes xs ≡ None
 odd_none [] h = absurd (omega arith)
 odd_none (a ∷ []) h = refl
 odd_none (a ∷ b ∷ xs) h =

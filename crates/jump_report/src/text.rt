@@ -122,14 +122,14 @@ fn is_digits(text: &[u8]) -> bool
 }
 
 /// The bytes that a text of hexadecimal pairs writes.
-#[tactic(auto, using(crate::proofs::HexLaws::decoded, crate::proofs::HexLaws::decoded_text, crate::proofs::HexLaws::even_text, crate::proofs::HexLaws::not_digits, crate::proofs::HexLaws::odd_digits, crate::proofs::HexLaws::text_digits))]
+#[tactic(auto, using(crate::proofs::HexLaws::decoded, crate::proofs::HexLaws::decoded_text, crate::proofs::HexLaws::even_text, crate::proofs::HexLaws::not_digits, crate::proofs::HexLaws::odd_none, crate::proofs::HexLaws::odd_digits, crate::proofs::HexLaws::text_digits))]
 pub fn parse_hex(heap: Global, text: &str) -> Result<Vec<u8>, HexError>
     ensures value { MatchResult result (λ v. hex_bytes text.now ≡ Some v.items) (λ e. (e ≡ NotHex → hex_bytes text.now ≡ None)) }
     ensures back { (bs : List ℕ) → Small bs → text.now ≡ hex_text bs → MatchResult result (λ v. v.items ≡ bs) (λ e. e ≡ OutOfMemory) }
     ensures refused { hex_bytes text.now ≡ None → result ≡ Err NotHex }
 {
     // The library takes memory before it looks at a digit; a text that is no hex is refused whatever memory there is.
-    if !is_digits(text.as_bytes()) {
+    if text.len() % 2 != 0 || !is_digits(text.as_bytes()) {
         return Err(HexError::NotHex);
     }
     Ok(hex::decode(heap, text)?)
